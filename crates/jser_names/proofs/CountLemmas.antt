@@ -299,9 +299,10 @@ pub raised_kept : (counts : List NameCount) (number times : ℕ) (count other : 
     → AreNumbered (map tally_of counts) entries × AreSpelled counts → number < length counts → count ≡ get_or counts number other → times ≡ count.times + 1
     → AreNumbered (map tally_of (set counts number (once_more count times))) entries × AreSpelled (set counts number (once_more count times))
 raised_kept counts number times count other entries are inside read more =
-    let at = read_at counts number count other inside read in
-    (raised_numbered count.name.items counts number times count entries are.0 (numbered_so count.name.items counts number count entries are.0 at refl) at (omega (arith, more)),
-    raised_spelled counts number times count are.1 at)
+    let at = read_at counts number count other inside read in (
+      raised_numbered count.name.items counts number times count entries are.0 (numbered_so count.name.items counts number count entries are.0 at refl) at (omega (arith, more)),
+      raised_spelled counts number times count are.1 at,
+    )
 
 pub raised_tally : (name : List ℕ) (counts : List NameCount) (tallies : List NameTally) (number times : ℕ) (count other : NameCount)
     → map tally_of counts ≡ tallies → number_in name tallies ≡ Some number → count ≡ get_or counts number other → times ≡ count.times + 1
@@ -326,11 +327,11 @@ spelled_so text counts tallies number count other entries same are inside read s
     let at = read_at counts number count other inside read in
     let bytes : count.spelled.items ≡ text = same_name count.spelled.items text is in
     elim (spelled_at counts number count are.1 at) [
-      inl none ↦ absurd (some (sym bytes ∙ none))
-    | inr known ↦
-        ap (number_in name) (sym same)
-        ∙ numbered_so name counts number count entries are.0 at
-        (one_text count.name.items name known.0 units (sym known.1 ∙ bytes ∙ sym spells))
+      | inl none ↦ absurd (some (sym bytes ∙ none))
+      | inr known ↦
+          ap (number_in name) (sym same)
+          ∙ numbered_so name counts number count entries are.0 at
+          (one_text count.name.items name known.0 units (sym known.1 ∙ bytes ∙ sym spells))
     ]
 
 -- one more behind them

@@ -1,13 +1,13 @@
 //! `explain`: the answer of a check, and why.
 ghost use Rattle.std.specs.Prelude.{◌≡◌, ◌≢◌, ◌⊎◌, ◌≤◌, IfErr};
 
+use crate::files::Opened;
 use crate::{filter_reading, filter_text, tell_unopened};
 use jser_explain::explain;
 use jser_inputs::{Decoded, Form};
 use jser_line::Filters;
 use jser_prim::{FromRead, Sink};
 use jser_scan::Rules;
-use std::fs::File;
 
 /// What is asked beside the filter.
 #[derive(Clone, Copy)]
@@ -63,11 +63,7 @@ fn explain_under<W: Sink, E: Sink>(
     ensures unbroken { result ≢ 3 → W.has_failed output.new ≡ W.has_failed output.old }
 {
     let alloc = rt.alloc();
-    if file == "-" {
-        let input = Decoded::new(FromRead::new(rt.stdin()), form);
-        return explain(alloc, rules, text, input, output, faults);
-    }
-    match File::open(rt, file) {
+    match Opened::new(rt, file) {
         Ok(opened) => {
             let input = Decoded::new(FromRead::new(opened), form);
             explain(alloc, rules, text, input, output, faults)

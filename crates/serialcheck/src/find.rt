@@ -1,16 +1,16 @@
 //! `find`: reads files, and prints the streams that lie in each.
 ghost use Rattle.std.specs.Prelude.{◌≡◌, ◌≢◌, ◌≤◌, length};
 
+use crate::course::Course;
+use crate::files::{Opened, path_of, unopened};
 use crate::filter_with;
 use crate::number::number_from_one;
-use crate::progress::Progress;
-use crate::scan::unopened;
 use jser_find::{Finds, Form, Place, TextFinds, judge, print_find};
 use jser_inputs::InputFault;
 use jser_line::Find;
 use jser_prim::{Failed, Outbox, Sink};
 use jser_printer::{write, write_decimal};
-use jser_scan::{FilePath, Found, How, Rules, Tally, print_found, write_count, write_path};
+use jser_scan::{FilePath, Found, How, Rules, write_count, write_path};
 use jser_settings::{FAILED, tell_failure};
 use std::fmt::Write as WriteText;
 use std::fs::File;
@@ -28,16 +28,25 @@ struct Search<'t> {
     words: &'t Find,
     rules: Rules,
     most: usize,
+    how: How,
 }
 
-/// What was found so far.
+/// What was searched so far.
 #[derive(Drop)]
-struct Course<'r> {
+struct Searched<'r> {
     files: u64,
     finds: u64,
-    tally: Tally,
+    /// Whether each stream was written that was to be.
     carved: bool,
-    progress: Progress<'r>,
+    course: Course<'r>,
+}
+
+impl Searched<'_> {
+    /// A stream was not written. Standard error is told why next.
+    fn not_carved(&mut self) {
+        self.carved = false;
+        self.course.progress.clear();
+    }
 }
 
 /// Prints the streams in these files, and the counts of all.
@@ -62,7 +71,16 @@ pub(crate) fn find_in_files<W: Sink, E: Sink>(
                 strict: words.strict,
                 anywhere: false,
             };
-            let search = Search { words, rules, most };
+            let how = How {
+                refused: false,
+                json: words.json,
+            };
+            let search = Search {
+                words,
+                rules,
+                most,
+                how,
+            };
             search_files(rt, &search, output, faults)
         }
         Err(status) => status,
@@ -83,13 +101,13 @@ fn search_files<W: Sink, E: Sink>(
     if output.failed() {
         return tell_failure(faults, "write failed\n");
     }
-    let course = search_all(rt, search, output, faults);
+    let searched = search_all(rt, search, output, faults);
     if output.failed() {
         return tell_failure(faults, "write failed\n");
     }
-    print_course(&course, faults);
-    if course.carved {
-        course.tally.status()
+    print_searched(&searched, faults);
+    if searched.carved {
+        searched.course.tally.status()
     } else {
         FAILED
     }
@@ -101,21 +119,20 @@ fn search_all<'r, W: Sink, E: Sink>(
     search: &Search<'_>,
     output: &mut W,
     faults: &mut E,
-) -> Course<'r> {
-    let mut course = Course {
+) -> Searched<'r> {
+    let mut searched = Searched {
         files: 0,
         finds: 0,
-        tally: Tally::new(),
         carved: true,
-        progress: Progress::new(rt, search.words.progress, "bytes"),
+        course: Course::new(rt, search.words.progress, "bytes"),
     };
     for file in &search.words.files {
-        if search_file(rt, search, file.as_str(), &mut course, output, faults).is_err() {
+        if search_file(rt, search, file.as_str(), &mut searched, output, faults).is_err() {
             break;
         }
     }
-    course.progress.clear();
-    course
+    searched.course.progress.clear();
+    searched
 }
 
 /// Prints the streams in a file, or in standard input where it is named `-`.
@@ -123,20 +140,22 @@ fn search_file<W: Sink, E: Sink>(
     rt: &HostRuntime,
     search: &Search<'_>,
     file: &str,
-    course: &mut Course<'_>,
+    searched: &mut Searched<'_>,
     output: &mut W,
     faults: &mut E,
 ) -> Result<(), Failed> {
-    course.files = course.files.saturating_add(1);
-    let Ok(text) = String::from_str(rt.alloc(), file) else {
-        return out_of_memory(course, faults);
-    };
-    let Ok(path) = FilePath::new(rt.alloc(), text) else {
-        return out_of_memory(course, faults);
+    searched.files = searched.files.saturating_add(1);
+    let Ok(path) = path_of(rt.alloc(), file) else {
+        searched.course.tell_no_memory(faults);
+        return Ok(());
     };
     match bytes_of_file(rt, file) {
-        Ok(bytes) => search_bytes(rt, search, &path, &bytes, course, output, faults),
-        Err(found) => print_unread(search, &path, &found, course, output, faults),
+        Ok(bytes) => search_bytes(rt, search, &path, &bytes, searched, output, faults),
+        Err(found) => {
+            searched
+                .course
+                .print(search.how, &path, &found, output, faults)
+        }
     }
 }
 
@@ -146,7 +165,7 @@ fn search_bytes<W: Sink, E: Sink>(
     search: &Search<'_>,
     path: &FilePath,
     bytes: &[u8],
-    course: &mut Course<'_>,
+    searched: &mut Searched<'_>,
     output: &mut W,
     faults: &mut E,
 ) -> Result<(), Failed> {
@@ -157,26 +176,22 @@ fn search_bytes<W: Sink, E: Sink>(
             Ok(Some(find)) => {
                 let (front, there) = bytes.split_at(find.from.min(bytes.len()));
                 let (stream, _) = there.split_at(find.len.min(there.len()));
-                search_text(rt, search, path, front, before, course, output, faults)?;
+                search_text(rt, search, path, front, before, searched, output, faults)?;
                 let place = Place {
                     from: find.from as u64,
                     to: (find.from as u64).saturating_add(find.len as u64),
                     form: Form::Bytes,
                 };
-                print_stream(rt, search, path, place, stream, course, output, faults)?;
-                course
+                print_stream(rt, search, path, place, stream, searched, output, faults)?;
+                searched
+                    .course
                     .progress
                     .add(finds.place().saturating_sub(find.from) as u64);
             }
-            Ok(None) => return search_text(rt, search, path, bytes, before, course, output, faults),
-            Err(_) => return print_unread(
-                search,
-                path,
-                &Found::OutOfMemory,
-                course,
-                output,
-                faults,
+            Ok(None) => return search_text(
+                rt, search, path, bytes, before, searched, output, faults,
             ),
+            Err(_) => return print_no_memory(search, path, searched, output, faults),
         }
     }
     Ok(())
@@ -189,15 +204,15 @@ fn search_text<W: Sink, E: Sink>(
     path: &FilePath,
     text: &[u8],
     from: usize,
-    course: &mut Course<'_>,
+    searched: &mut Searched<'_>,
     output: &mut W,
     faults: &mut E,
 ) -> Result<(), Failed> {
     let start = from.min(text.len());
     if search.words.text {
-        print_texts(rt, search, path, text, start, course, output, faults)?;
+        print_texts(rt, search, path, text, start, searched, output, faults)?;
     }
-    course.progress.add((text.len() - start) as u64);
+    searched.course.progress.add((text.len() - start) as u64);
     Ok(())
 }
 
@@ -208,7 +223,7 @@ fn print_texts<W: Sink, E: Sink>(
     path: &FilePath,
     text: &[u8],
     start: usize,
-    course: &mut Course<'_>,
+    searched: &mut Searched<'_>,
     output: &mut W,
     faults: &mut E,
 ) -> Result<(), Failed>
@@ -229,20 +244,13 @@ fn print_texts<W: Sink, E: Sink>(
                     path,
                     place,
                     &find.stream,
-                    course,
+                    searched,
                     output,
                     faults,
                 )?;
             }
             Ok(None) => return Ok(()),
-            Err(_) => return print_unread(
-                search,
-                path,
-                &Found::OutOfMemory,
-                course,
-                output,
-                faults,
-            ),
+            Err(_) => return print_no_memory(search, path, searched, output, faults),
         }
     }
     Ok(())
@@ -256,7 +264,7 @@ fn print_stream<W: Sink, E: Sink>(
     path: &FilePath,
     place: Place,
     stream: &[u8],
-    course: &mut Course<'_>,
+    searched: &mut Searched<'_>,
     output: &mut W,
     faults: &mut E,
 ) -> Result<(), Failed> {
@@ -264,11 +272,11 @@ fn print_stream<W: Sink, E: Sink>(
         return Ok(());
     }
     let found = judge(rt.alloc(), &search.rules, stream);
-    course.finds = course.finds.saturating_add(1);
-    course.tally.note(&found);
-    print_find(search.words.json, path, place, &found, output)?;
+    searched.finds = searched.finds.saturating_add(1);
+    searched.course.tally.note(&found);
+    print_find(search.how.json, path, place, &found, output)?;
     if let Some(folder) = &search.words.carve {
-        carve(rt, folder.as_str(), place.from, stream, course, faults);
+        carve(rt, folder.as_str(), place.from, stream, searched, faults);
     }
     Ok(())
 }
@@ -280,19 +288,17 @@ fn carve<E: Sink>(
     folder: &str,
     from: u64,
     stream: &[u8],
-    course: &mut Course<'_>,
+    searched: &mut Searched<'_>,
     faults: &mut E,
 ) {
     let mut name = String::new(rt.alloc());
     if write!(name, "{folder}/{from}.ser").is_err() {
-        course.carved = false;
-        course.progress.clear();
+        searched.not_carved();
         tell_failure(faults, "out of memory\n");
         return;
     }
     if write_new(rt, name.as_str(), stream).is_err() {
-        course.carved = false;
-        course.progress.clear();
+        searched.not_carved();
         tell_unwritten(rt, name, faults);
     }
 }
@@ -317,59 +323,40 @@ fn tell_unwritten<E: Sink>(rt: &HostRuntime, name: String, faults: &mut E) {
 
 /// The bytes of a file, or of standard input where it is named `-`.
 fn bytes_of_file(rt: &HostRuntime, file: &str) -> Result<Vec<u8>, Found> {
-    let mut bytes = Vec::new(rt.alloc());
-    let read = if file == "-" {
-        rt.stdin().read_to_end(&mut bytes)
-    } else {
-        match File::open(rt, file) {
-            Ok(opened) => {
-                let mut opened = opened;
-                opened.read_to_end(&mut bytes)
-            }
-            Err(error) => return Err(unopened(&error)),
-        }
+    let mut opened = match Opened::new(rt, file) {
+        Ok(opened) => opened,
+        Err(error) => return Err(unopened(&error)),
     };
-    match read {
+    let mut bytes = Vec::new(rt.alloc());
+    match opened.read_to_end(&mut bytes) {
         Ok(_) => Ok(bytes),
         Err(error) if error.kind() == ErrorKind::OutOfMemory => Err(Found::OutOfMemory),
         Err(_) => Err(Found::NotRead(InputFault::Failed)),
     }
 }
 
-/// Prints why a file was not read, or not to its end.
-fn print_unread<W: Sink, E: Sink>(
+/// Prints that there was no memory to search a file to its end.
+fn print_no_memory<W: Sink, E: Sink>(
     search: &Search<'_>,
     path: &FilePath,
-    found: &Found,
-    course: &mut Course<'_>,
+    searched: &mut Searched<'_>,
     output: &mut W,
     faults: &mut E,
 ) -> Result<(), Failed> {
-    course.tally.note(found);
-    course.progress.clear();
-    let how = How {
-        refused: false,
-        json: search.words.json,
-    };
-    print_found(how, path, found, output, faults)
-}
-
-/// Counts a file of which nothing can be printed.
-fn out_of_memory<E: Sink>(course: &mut Course<'_>, faults: &mut E) -> Result<(), Failed> {
-    course.tally.note(&Found::OutOfMemory);
-    course.progress.clear();
-    tell_failure(faults, "out of memory\n");
-    Ok(())
+    searched
+        .course
+        .print(search.how, path, &Found::OutOfMemory, output, faults)
 }
 
 /// Prints the counts of all streams and files.
-fn print_course<E: Sink>(course: &Course<'_>, faults: &mut E) {
+fn print_searched<E: Sink>(searched: &Searched<'_>, faults: &mut E) {
+    let tally = &searched.course.tally;
     let mut outbox = Outbox::new();
-    write_decimal(&mut outbox, faults, course.finds);
-    write_count(&mut outbox, faults, b" streams in ", course.files);
-    write_count(&mut outbox, faults, b" files, ", course.tally.accepted);
-    write_count(&mut outbox, faults, b" accepted, ", course.tally.refused);
-    write_count(&mut outbox, faults, b" refused, ", course.tally.unread);
+    write_decimal(&mut outbox, faults, searched.finds);
+    write_count(&mut outbox, faults, b" streams in ", searched.files);
+    write_count(&mut outbox, faults, b" files, ", tally.accepted);
+    write_count(&mut outbox, faults, b" accepted, ", tally.refused);
+    write_count(&mut outbox, faults, b" refused, ", tally.unread);
     write(&mut outbox, faults, b" not read\n");
     outbox.flush(faults);
 }

@@ -9,7 +9,9 @@ ghost use Rattle.jser_commands.specs.Lines.{HasLimit};
 ghost use Rattle.jser_explain.specs.Explains.{check_of};
 ghost use Rattle.serialcheck.specs.Jobs.{list_of};
 
+mod course;
 mod explain;
+mod files;
 mod find;
 mod number;
 mod progress;
@@ -18,6 +20,7 @@ mod scan;
 mod suggest;
 
 use crate::explain::{ExplainOptions, explain_file};
+use crate::files::{Opened, path_of};
 use crate::find::find_in_files;
 use crate::number::number_from_one;
 use crate::records::check_records;
@@ -28,7 +31,7 @@ use jser_filter::{Filter, Modules};
 use jser_inputs::{Decoded, Form, Input};
 use jser_line::{Clash, Filters, Line, LineFault, line_of, printable};
 use jser_prim::{FromRead, Sink, ToWrite};
-use jser_scan::{FilePath, How, Rules};
+use jser_scan::{How, Rules};
 use jser_settings::{
     FAILED, filter_of, filter_text_in, limit_of, modules_of, note_modules, note_patterns,
     tell_failure, tell_misuse,
@@ -386,11 +389,7 @@ fn on_file<W: Sink, E: Sink>(
     ensures misuse { result ≢ 2 }
 {
     let alloc = rt.alloc();
-    if file == "-" {
-        let mut input = Decoded::new(FromRead::new(rt.stdin()), form);
-        return on_input(alloc, job, &mut input, output, faults);
-    }
-    match File::open(rt, file) {
+    match Opened::new(rt, file) {
         Ok(opened) => {
             let mut input = Decoded::new(FromRead::new(opened), form);
             on_input(alloc, job, &mut input, output, faults)
@@ -418,10 +417,7 @@ fn on_input<R: Input, W: Sink, E: Sink>(
 pub(crate) fn tell_unopened<E: Sink>(alloc: Global, file: &str, faults: &mut E) -> u8
     ensures { result ≡ 3 }
 {
-    let Ok(text) = String::from_str(alloc, file) else {
-        return tell_failure(faults, "out of memory\n");
-    };
-    let Ok(path) = FilePath::new(alloc, text) else {
+    let Ok(path) = path_of(alloc, file) else {
         return tell_failure(faults, "out of memory\n");
     };
     jser_scan::tell_unopened(&path, faults);

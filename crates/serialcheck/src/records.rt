@@ -1,6 +1,7 @@
 //! `records`: opens the input, and hands it to the check of its records.
 ghost use Rattle.std.specs.Prelude.{◌≡◌, ◌≢◌, ◌⊎◌, ◌≤◌, IfErr};
 
+use crate::files::Opened;
 use crate::number::{number_from_one, number_in};
 use crate::progress::{Counted, Progress};
 use crate::{filter_with, tell_unopened};
@@ -9,7 +10,6 @@ use jser_line::Records;
 use jser_prim::{FromRead, Sink};
 use jser_records::{Asked, Layout, Lines, Shape, run_records};
 use jser_scan::{How, Rules};
-use std::fs::File;
 
 /// How many bytes of a record are read at most, where that is not said.
 const MOST: u64 = 16_777_216;
@@ -76,11 +76,7 @@ fn check_under<W: Sink, E: Sink>(
     ensures unbroken { result ≢ 3 → W.has_failed output.new ≡ W.has_failed output.old }
 {
     let alloc = rt.alloc();
-    if file == "-" {
-        let source = FromRead::new(Counted::new(rt.stdin(), progress));
-        return run_records(alloc, rules, asked, source, output, faults);
-    }
-    match File::open(rt, file) {
+    match Opened::new(rt, file) {
         Ok(opened) => {
             let source = FromRead::new(Counted::new(opened, progress));
             run_records(alloc, rules, asked, source, output, faults)

@@ -1,13 +1,14 @@
 //! `scan`: goes through folders, and checks one file after another.
 ghost use Rattle.std.specs.Prelude.{◌≡◌, ◌≢◌, ◌≤◌, OnOk};
 
-use crate::progress::Progress;
+use crate::course::Course;
+use crate::files::{Opened, path_of, unopened};
 use jser_inputs::{Decoded, Form, InputFault};
 use jser_prim::{Failed, FromRead, Sink};
-use jser_scan::{FilePath, Found, How, Rules, Tally, check_file, print_found, print_summary};
+use jser_scan::{Found, How, Rules, check_file, print_summary};
 use jser_settings::tell_failure;
-use std::fs::{self, File};
-use std::io::{self, ErrorKind};
+use std::fs;
+use std::io::ErrorKind;
 
 /// What is asked of the files.
 #[derive(Drop)]
@@ -20,21 +21,6 @@ pub(crate) struct Task<'t> {
     pub(crate) how: How,
     /// Whether standard error is told how far it is.
     pub(crate) progress: bool,
-}
-
-/// What was found so far.
-#[derive(Drop)]
-struct Course<'r> {
-    tally: Tally,
-    progress: Progress<'r>,
-}
-
-impl Course<'_> {
-    /// One file more.
-    fn note(&mut self, found: &Found) {
-        self.tally.note(found);
-        self.progress.add(1);
-    }
 }
 
 /// What a path is, where links are not followed.
@@ -58,10 +44,7 @@ pub(crate) fn scan_paths<W: Sink, E: Sink>(
     ensures unbroken { result ≢ 3 → W.has_failed output.new ≡ W.has_failed output.old }
     ensures misuse { result ≡ 2 → output.new ≡ output.old }
 {
-    let mut course = Course {
-        tally: Tally::new(),
-        progress: Progress::new(rt, task.progress, "files"),
-    };
+    let mut course = Course::new(rt, task.progress, "files");
     for path in paths {
         if scan_given(rt, task, path.as_str(), &mut course, output, faults).is_err() {
             course.progress.clear();
@@ -212,14 +195,6 @@ fn put_on_top(mut paths: Vec<String>, waiting: &mut Vec<String>) -> Result<(), F
     Ok(())
 }
 
-/// What is found where something cannot be opened.
-pub(crate) fn unopened(error: &io::Error) -> Found {
-    match error.kind() {
-        ErrorKind::OutOfMemory => Found::OutOfMemory,
-        _ => Found::NotOpened,
-    }
-}
-
 /// Checks a file, or standard input where it is named `-`, and prints what was found.
 fn scan_file<W: Sink, E: Sink>(
     rt: &HostRuntime,
@@ -237,16 +212,10 @@ fn scan_file<W: Sink, E: Sink>(
 
 /// What the check finds in a file.
 fn found_in(rt: &HostRuntime, task: &Task<'_>, path: &str) -> Found {
-    let alloc = rt.alloc();
-    if path == "-" {
-        let input = Decoded::new(FromRead::new(rt.stdin()), task.form);
-        let (found, _input) = check_file(alloc, task.rules, input);
-        return found;
-    }
-    match File::open(rt, path) {
+    match Opened::new(rt, path) {
         Ok(opened) => {
             let input = Decoded::new(FromRead::new(opened), task.form);
-            let (found, _input) = check_file(alloc, task.rules, input);
+            let (found, _input) = check_file(rt.alloc(), task.rules, input);
             found
         }
         Err(error) => unopened(&error),
@@ -265,32 +234,10 @@ fn print<W: Sink, E: Sink>(
 ) -> Result<(), Failed>
     ensures kept { OnOk result (W.has_failed output.new ≡ W.has_failed output.old) }
 {
-    let alloc = rt.alloc();
-    let Ok(text) = String::from_str(alloc, path) else {
-        return out_of_memory(course, faults);
+    course.progress.add(1);
+    let Ok(path) = path_of(rt.alloc(), path) else {
+        course.tell_no_memory(faults);
+        return Ok(());
     };
-    let Ok(path) = FilePath::new(alloc, text) else {
-        return out_of_memory(course, faults);
-    };
-    course.note(found);
-    if is_told_as_fault(found) {
-        course.progress.clear();
-    }
-    print_found(task.how, &path, found, output, faults)
-}
-
-/// Whether standard error is told what was found.
-fn is_told_as_fault(found: &Found) -> bool {
-    matches!(
-        found,
-        Found::NotOpened | Found::NotRead(_) | Found::OutOfMemory
-    )
-}
-
-/// Counts a file of which nothing can be printed.
-fn out_of_memory<E: Sink>(course: &mut Course<'_>, faults: &mut E) -> Result<(), Failed> {
-    course.note(&Found::OutOfMemory);
-    course.progress.clear();
-    tell_failure(faults, "out of memory\n");
-    Ok(())
+    course.print(task.how, &path, found, output, faults)
 }

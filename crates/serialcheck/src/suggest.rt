@@ -1,15 +1,14 @@
 //! `suggest`: the least filter that admits some good files.
 ghost use Rattle.std.specs.Prelude.{◌≡◌, ◌≢◌, ◌⊎◌, ◌≤◌, IfErr};
 
-use crate::scan::unopened;
+use crate::files::{Opened, path_of, unopened};
 use jser_inputs::{Decoded, Form, Input};
 use jser_names::{NamesFault, found_of};
 use jser_prim::{FromRead, Sink};
 use jser_reader::Stop;
-use jser_scan::{FilePath, Found, print_suggested, tell_found, tell_no_sample};
+use jser_scan::{Found, print_suggested, tell_found, tell_no_sample};
 use jser_settings::{FAILED, tell_failure};
 use jser_suggest::{SampleFault, Samples};
-use std::fs::File;
 
 /// Why a file is no sample.
 #[derive(Drop)]
@@ -65,14 +64,7 @@ fn learn_all<E: Sink>(
 
 /// Takes a file, or standard input where it is named `-`.
 fn learn(rt: &HostRuntime, form: Form, file: &str, samples: &mut Samples) -> Result<(), NoSample> {
-    if file == "-" {
-        return learn_input(
-            rt,
-            &mut Decoded::new(FromRead::new(rt.stdin()), form),
-            samples,
-        );
-    }
-    match File::open(rt, file) {
+    match Opened::new(rt, file) {
         Ok(opened) => learn_input(rt, &mut Decoded::new(FromRead::new(opened), form), samples),
         Err(error) => Err(NoSample::Unread(unopened(&error))),
     }
@@ -101,11 +93,7 @@ fn learn_input<R: Input>(
 fn tell<E: Sink>(rt: &HostRuntime, file: &str, fault: &NoSample, faults: &mut E) -> u8
     ensures { result ≤ 3 }
 {
-    let alloc = rt.alloc();
-    let Ok(text) = String::from_str(alloc, file) else {
-        return tell_failure(faults, "out of memory\n");
-    };
-    let Ok(path) = FilePath::new(alloc, text) else {
+    let Ok(path) = path_of(rt.alloc(), file) else {
         return tell_failure(faults, "out of memory\n");
     };
     match fault {
