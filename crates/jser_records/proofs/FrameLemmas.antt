@@ -41,10 +41,6 @@ pub held_key : (begun mid : Reading) → (mid ≡ begun) ⊎ (mid ≡ record beg
 held_key begun mid (inl same) = ap (λ r. r.key) same
 held_key begun mid (inr out) = ap (λ r. r.key) out
 
--- an answer changes neither the rules nor the KEY
-pub answered_keeps : (old new : Reading) → new ≡ record old { answer = new.answer } → KeepsRules old new
-answered_keeps old new is = record { rules = ap (λ r. r.judge.rules) is; most = ap (λ r. r.most) is }
-
 plain_more : (mid new : Reading) (bytes piece : List ℕ) → ((taken : List ℕ) → HasRead mid taken → HasRead new (taken ++ piece))
     → (IfSome mid.answer IsOfBytes → IfSome new.answer IsOfBytes) → new.decoder ≡ mid.decoder → HasPlain mid bytes → HasPlain new (bytes ++ piece)
 plain_more mid new bytes piece has is_of same had =

@@ -1,3 +1,4 @@
+pub mod FieldLemmas
 pub mod FrameLemmas
 pub mod InputLemmas
 pub mod JudgeLemmas

@@ -60,13 +60,6 @@ answers judge most room result bytes right = record { going = λ none. absurd (c
 pub begins : (judge : Judging) (most : ℕ) → HasJudged judge [] → Stands judge most most None []
 begins judge most judged = record { going = λ none. record { judged = judged; counted = omega arith }; answered = tt }
 
-pub took_on : (judge new : Judging) (most room : ℕ) (taken piece : List ℕ) → Stands judge most room None taken → length piece ≤ room → HasJudged new (taken ++ piece)
-    → Stands new most (room - length piece) None (taken ++ piece)
-took_on judge new most room taken piece had fits judged =
-    let count : length taken + room ≡ most = (had.going refl).counted in
-    let size : length (taken ++ piece) ≡ length taken + length piece = length-append taken piece in
-    record { going = λ none. record { judged = judged; counted = omega (arith, count, size, fits) }; answered = tt }
-
 joined : (taken front rest piece more : List ℕ) → piece ≡ front ++ rest → (taken ++ front) ++ (rest ++ more) ≡ (taken ++ piece) ++ more
 joined taken front rest piece more split =
     sym (append_assoc (taken ++ front) rest more) ∙ ap (λ xs. xs ++ more) (append_assoc taken front rest ∙ ap (λ xs. taken ++ xs) (sym split))
@@ -76,18 +69,6 @@ pub took_found : (new : Judging) (most room : ℕ) (taken front rest piece : Lis
 took_found new most room taken front rest piece result split d = record {
   going = λ none. absurd (cc);
   answered = λ more. (subst (λ xs. IsSound new.rules xs result) (joined taken front rest piece more split) (d.sound (rest ++ more)), λ yes. let no : is_accepted result ≡ false = d.refuses in absurd (cc));
-}
-
-pub took_longer : (judge new : Judging) (most room left : ℕ) (taken piece : List ℕ) → Stands judge most room None taken → room < length piece
-    → Stands new most left (Some (answer.Longer most)) (taken ++ piece)
-took_longer judge new most room left taken piece had more = record {
-  going = λ none. absurd (cc);
-  answered =
-      λ rest.
-      let count : length taken + room ≡ most = (had.going refl).counted in
-      let size : length (taken ++ piece) ≡ length taken + length piece = length-append taken piece in
-      let all : length ((taken ++ piece) ++ rest) ≡ length (taken ++ piece) + length rest = length-append (taken ++ piece) rest in
-      (refl, omega (arith, count, size, all, more));
 }
 
 -- a record that is answered takes no more

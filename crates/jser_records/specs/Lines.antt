@@ -1,32 +1,66 @@
 -- Records that are lines.
-use Rattle.std.specs.Prelude.{ℕ, ◌≡◌, ◌⊎◌, ◌<◌, if◌then◌else◌, List, [], ◌∷◌, ◌++◌, length, Option, Some, None}
+use Rattle.std.specs.Prelude.{ℕ, ◌≡◌, ◌⊎◌, ◌+◌, ◌≤◌, ◌<◌, if◌then◌else◌, List, [], ◌∷◌, ◌++◌, length, Option, Some, None}
+use Rattle.jser_inputs.specs.declared.Form.{Form}
+use Rattle.jser_scan.specs.declared.Rules.{Rules}
 use Rattle.jser_records.specs.declared.layout.Lines.{Lines}
 use Rattle.jser_records.specs.declared.lines.Stretch.{Stretch}
-use Rattle.jser_records.specs.Arriving.{Arriving, HasNone, IsOver, Took}
+use Rattle.jser_records.specs.declared.reading.Reading.{Reading}
+use Rattle.jser_records.specs.Arriving.{Arriving, HasNone, IsOver, Took, room_size}
+use Rattle.jser_records.specs.Fields.{IsBare, IsValue}
+use Rattle.jser_records.specs.Readings.{Came, IsFor, IsOfDigits, Value, none, text_of}
+use Rattle.jser_records.specs.Texts.{behind_mark, characters_in, is_null}
+use Rattle.jser_records.specs.Told.{Entry}
 
 -- the byte that ends a line
 abbrev pub end_of : Lines → ℕ
 end_of lines = if lines.zero then 0x00 else 0x0A
 
--- bytes with no line end, and one behind them
-pub record IsEnded (end : ℕ) (line : List ℕ) : Type 0 where
+-- what the characters of a field are as a value
+abbrev pub value_in : Form → List ℕ → Value
+value_in form field = if is_null field then none else text_of form (characters_in form (behind_mark form field))
+
+-- This is the value of a line, which is given without its end.
+pub record IsOfLine (lines : Lines) (text : List ℕ) (value : Value) : Type 0 where
+  pub bare : List ℕ
+  pub is_bare : IsBare lines text bare
+  pub field : List ℕ
+  pub is_field : IsValue lines.field bare field
+  pub is_value : value ≡ value_in lines.form field
+
+-- a line is short enough to be taken at once, and its value is a text of digits
+pub record IsShort (lines : Lines) (text : List ℕ) : Type 0 where
+  pub short : length text + 1 < room_size
+  pub digits : IsOfDigits lines.form
+
+-- its answer is right of its value
+pub record AnswersLine (lines : Lines) (rules : Rules) (most : ℕ) (text : List ℕ) (entry : Entry) : Type 0 where
+  pub value : Value
+  pub is : IsOfLine lines text value
+  pub right : IsFor rules most entry.key.is_lost value entry.answer
+
+-- This is the record of the line at the front of some bytes, and `rest` is what is behind it: a text, and the byte that ends it.
+-- The last line of an input may have no end, and is then not empty.
+pub record LineOf (lines : Lines) (rules : Rules) (most : ℕ) (bytes : List ℕ) (entry : Entry) (rest : List ℕ) : Type 0 where
   pub text : List ℕ
-  pub split : line ≡ text ++ (end ∷ [])
-  pub none : HasNone end text
-
--- or the last bytes of an input, which has no line end there
-pub record IsLast (end : ℕ) (line rest : List ℕ) : Type 0 where
-  pub some : 0 < length line
-  pub none : HasNone end line
-  pub ends : rest ≡ []
-
--- This is the line at the front of some bytes, and `rest` is what is behind it.
-pub record LineOf (lines : Lines) (bytes rest : List ℕ) : Type 0 where
-  pub line : List ℕ
-  pub split : bytes ≡ line ++ rest
-  pub is : IsEnded (end_of lines) line ⊎ IsLast (end_of lines) line rest
+  pub tail : List ℕ
+  pub split : bytes ≡ (text ++ tail) ++ rest
+  pub none : HasNone (end_of lines) text
+  pub is : (tail ≡ end_of lines ∷ []) ⊎ ((tail ≡ []) × (0 < length text) × (rest ≡ []))
+  pub right : IsShort lines text → AnswersLine lines rules most text entry
 
 -- ---- as it is read
+
+-- the value of a line came
+pub record LineCame (lines : Lines) (text : List ℕ) (r : Reading) : Type 0 where
+  pub value : Value
+  pub is : IsOfLine lines text value
+  pub came : Came r value
+
+-- the field that is the value came
+pub record FieldCame (lines : Lines) (line : List ℕ) (r : Reading) : Type 0 where
+  pub field : List ℕ
+  pub is_field : IsValue lines.field line field
+  pub came : Came r (value_in lines.form field)
 
 -- bytes of a line were taken, without a line end
 pub record TakesText (end : ℕ) (from now : Arriving) : Type 0 where
@@ -34,10 +68,10 @@ pub record TakesText (end : ℕ) (from now : Arriving) : Type 0 where
   pub took : Took from now text
   pub none : HasNone end text
 
--- the first ones, of which there are some
+-- the first ones of one that is not short
 pub record TakesFirst (end : ℕ) (from now : Arriving) : Type 0 where
   pub takes : TakesText end from now
-  pub some : 0 < length takes.text
+  pub long : room_size ≤ length takes.text + 1
 
 -- the last bytes of a line were taken, with its end; or the input ended
 pub record TakesRest (end : ℕ) (from now : Arriving) : Type 0 where
@@ -50,7 +84,10 @@ StretchTakes end from now (Some next) = TakesText end from now
 StretchTakes end from now None = TakesRest end from now
 
 -- a line was taken
-pub record TakesLine (end : ℕ) (from now : Arriving) : Type 0 where
-  pub line : List ℕ
-  pub took : Took from now line
-  pub is : IsEnded end line ⊎ ((0 < length line) × HasNone end line × IsOver now)
+pub record TakesLine (lines : Lines) (from now : Arriving) (r : Reading) : Type 0 where
+  pub text : List ℕ
+  pub tail : List ℕ
+  pub took : Took from now (text ++ tail)
+  pub none : HasNone (end_of lines) text
+  pub is : (tail ≡ end_of lines ∷ []) ⊎ ((tail ≡ []) × (0 < length text) × IsOver now)
+  pub came : IsShort lines text → LineCame lines text r

@@ -120,3 +120,15 @@ HasCome r (cut_at at total) = r.answer ≡ Some (answer.Cut at total)
 
 abbrev pub Came : Reading → Value → Type 0
 Came r value = HasCome r value ⊎ ((r.answer ≡ Some (answer.Checked found.OutOfMemory)) ⊎ ((r.answer ≡ Some answer.LongKey) × (r.key.is_lost ≡ true)))
+
+-- more of its KEY came, which did not change what is answered; or the KEY is too long, and that is the answer
+abbrev pub AddsKey : (old new : Reading) → Type 0
+AddsKey old new =
+    ((new ≡ record old { key = new.key }) × (old.key.is_lost ≡ false))
+    ⊎ ((new ≡ record old { key = new.key; answer = Some answer.LongKey }) × (new.key.is_lost ≡ true))
+
+-- no character of a value in this form came so far; or it is answered why there is none
+abbrev pub IsReady : Reading → Form → Type 0
+IsReady r form =
+    ((r.answer ≡ None) × HasSpelled r form [])
+    ⊎ ((r.answer ≡ Some (answer.Checked found.OutOfMemory)) ⊎ ((r.answer ≡ Some answer.LongKey) × (r.key.is_lost ≡ true)))

@@ -14,7 +14,7 @@ use Rattle.jser_records.specs.Told.{Entry, Event, SaysAll, ended, behind}
 
 -- This is the record at the front of some bytes, and `rest` is what is behind it.
 abbrev pub IsRecord : Shape → Rules → (most : ℕ) → (bytes : List ℕ) → Entry → (rest : List ℕ) → Type 0
-IsRecord (shape.Lines lines) rules most bytes entry rest = LineOf lines bytes rest
+IsRecord (shape.Lines lines) rules most bytes entry rest = LineOf lines rules most bytes entry rest
 IsRecord shape.Frames rules most bytes entry rest = FrameOf rules most bytes entry rest
 IsRecord shape.Sized rules most bytes entry rest = ⊥
 

@@ -113,6 +113,8 @@ impl<'f> Record<'f> {
     pub(crate) fn spell(&mut self, form: Form, text: &[u8])
         ensures spelled { (before : List ℕ) → IsOfDigits form → length (before ++ text.now) < 2 ^ 63 → HasSpelled self.old.reading form before
             → HasSpelled self.new.reading form (before ++ characters_in form text.now) }
+        ensures answered { IfSome self.old.reading.answer (λ a. self.new.reading ≡ self.old.reading) }
+        ensures key { self.new.reading.key ≡ self.old.reading.key }
         ensures rules { KeepsRules self.old.reading self.new.reading }
     {
         if self.reading.is_answered() {
@@ -169,6 +171,8 @@ impl<'f> Record<'f> {
 fn spell_over(reading: &mut Reading<'_>, form: Form, text: &mut [u8])
     ensures spelled { (before : List ℕ) → IsOfDigits form → length (before ++ text.old) < 2 ^ 63 → HasSpelled reading.old form before
         → HasSpelled reading.new form (before ++ characters_in form text.old) }
+    ensures answered { IfSome reading.old.answer (λ a. reading.new ≡ reading.old) }
+    ensures key { reading.new.key ≡ reading.old.key }
     ensures rules { KeepsRules reading.old reading.new }
 {
     mark_over(form, text);

@@ -40,6 +40,7 @@ impl Key {
     /// Adds a front of the KEY, or what is behind it. `false` where it is too long: then it is lost.
     pub(crate) fn add(&mut self, bytes: &[u8]) -> bool
         ensures lost { result ≡ false → self.new.is_lost ≡ true }
+        ensures kept { result ≡ true → self.old.is_lost ≡ false }
     {
         let room = MOST.saturating_sub(self.bytes.len());
         if self.is_lost || bytes.len() > room || self.bytes.extend_from_slice(bytes).is_err() {

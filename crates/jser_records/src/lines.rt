@@ -1,10 +1,13 @@
 //! Records that are lines of text. A line is taken whole where it fits the room for what waits, else piece after piece.
 
-ghost use Rattle.std.specs.Prelude.{◌≡◌, ◌≤◌, ◌<◌, ◌+◌, ◌^◌, [], length, true, false, OnOk, Ok, Some, None};
+ghost use Rattle.std.specs.Prelude.{◌≡◌, ◌≤◌, ◌<◌, ◌+◌, ◌^◌, [], length, true, false, IfSome, OnOk, Ok, Some, None};
 ghost use Rattle.std.specs.Io.KnownBytes.{IsAtEnd};
+ghost use Rattle.jser_inputs.specs.declared.Form.{Form as ToldForm};
 ghost use Rattle.jser_records.specs.Arriving.{HasNone, IsBefore, IsOver, room_size};
-ghost use Rattle.jser_records.specs.Lines.{StretchTakes, TakesFirst, TakesLine, end_of};
-ghost use Rattle.jser_records.specs.Readings.{HasSpelled, IsOfDigits, KeepsRules};
+ghost use Rattle.jser_records.specs.Fields.{IsBare};
+ghost use Rattle.jser_records.specs.Lines.{FieldCame, IsShort, LineCame, StretchTakes, TakesFirst, TakesLine, end_of};
+ghost use Rattle.jser_records.specs.Readings.{Came, HasSpelled, IsOfDigits, IsReady, KeepsRules};
+ghost use Rattle.jser_records.specs.Readings.{Value as ToldValue};
 ghost use Rattle.jser_records.specs.Records.{RecordsGoTo, RecordsTo};
 ghost use Rattle.jser_records.specs.Texts.{behind_mark, characters_in, is_null, mark_size};
 ghost use Rattle.jser_records.specs.declared.layout.Shape.TheVariants as Shape;
@@ -14,7 +17,7 @@ use crate::clerk::Clerk;
 use crate::current::Record;
 use crate::inbox::Inbox;
 use crate::layout::Lines;
-use crate::parts::parts_of;
+use crate::parts::{Parts, parts_of};
 use crate::run::{Trouble, read_more};
 use jser_inputs::Form;
 use jser_prim::{Sink, Source};
@@ -94,7 +97,7 @@ fn take_whole_line<R: Source>(
 )
     requires before { IsBefore (end_of lines) inbox.old.waiting count }
     requires within { count < room_size }
-    ensures takes { TakesLine (end_of lines) inbox.old inbox.new }
+    ensures takes { TakesLine lines inbox.old inbox.new current.new.reading }
     ensures rules { KeepsRules current.old.reading current.new.reading }
     ensures sought { inbox.new.sought ≡ inbox.old.sought }
 {
@@ -132,36 +135,34 @@ fn line_end(lines: Lines) -> &'static [u8] {
 
 /// Takes a whole line, without its end, which is told beside it.
 fn take_line(current: &mut Record<'_>, lines: Lines, line: &[u8], end: &[u8])
+    ensures came { IsShort lines line.now → LineCame lines line.now current.new.reading }
     ensures rules { KeepsRules current.old.reading current.new.reading }
 {
     current.begin(lines.form);
     current.hold(line);
     current.hold(end);
-    let count = without_return(lines, line);
-    let (line, _) = line.split_at(count);
-    let _ = take_front(current, lines, line);
+    let _ = take_front(current, lines, without_return(lines, line));
 }
 
-/// How many bytes a line has without the carriage return at its end.
-fn without_return(lines: Lines, line: &[u8]) -> usize
-    ensures { result ≤ length line.now }
+/// A line without the carriage return at its end.
+fn without_return(lines: Lines, line: &[u8]) -> &[u8]
+    ensures bare { IsBare lines line.now result.now }
+    ensures within { length result.now ≤ length line.now }
 {
     match line {
-        [front @ .., b'\r'] if !lines.zero => front.len(),
-        _ => line.len(),
+        [front @ .., b'\r'] if !lines.zero => front,
+        _ => line,
     }
 }
 
 /// Takes the first bytes of a line, all of its KEY before the value among them.
 fn take_front(current: &mut Record<'_>, lines: Lines, line: &[u8]) -> Stretch
+    ensures came { IsReady current.old.reading lines.form → IsShort lines line.now → FieldCame lines line.now current.new.reading }
     ensures rules { KeepsRules current.old.reading current.new.reading }
 {
     let parts = parts_of(line, lines.field);
     let (before, rest) = line.split_at(parts.from);
-    if parts.from > 0 || parts.front > 0 {
-        let (front, _) = before.split_at(parts.front);
-        current.reading.add_key(front);
-    }
+    take_before(current, parts, before);
     let (value, behind) = rest.split_at(parts.to - parts.from);
     take_value_front(current, lines.form, value);
     match behind {
@@ -174,8 +175,23 @@ fn take_front(current: &mut Record<'_>, lines: Lines, line: &[u8]) -> Stretch
     }
 }
 
+/// Takes what is before a value: the fields there, if there is one.
+#[tactic(auto, using(crate::proofs::LineLemmas::ready_keyed))]
+fn take_before(current: &mut Record<'_>, parts: Parts, before: &[u8])
+    requires { parts.front ≤ length before.now }
+    ensures ready { (form : ToldForm) → IsReady current.old.reading form → IsReady current.new.reading form }
+    ensures rules { KeepsRules current.old.reading current.new.reading }
+{
+    if parts.from > 0 || parts.front > 0 {
+        let (front, _) = before.split_at(parts.front);
+        current.reading.add_key(front);
+    }
+}
+
 /// Takes what is behind a value, from the TAB on. It is the first of the KEY where nothing is before the value.
+#[tactic(auto, using(crate::proofs::LineLemmas::came_keyed))]
 fn take_behind(current: &mut Record<'_>, behind: &[u8], is_first: bool)
+    ensures came { (value : ToldValue) → Came current.old.reading value → Came current.new.reading value }
     ensures rules { KeepsRules current.old.reading current.new.reading }
 {
     let skipped = if is_first { 1 } else { 0 };
@@ -189,6 +205,8 @@ fn take_value_front(current: &mut Record<'_>, form: Form, value: &[u8])
     ensures null { is_null value.now ≡ true → current.old.reading.answer ≡ None → current.new.reading.answer ≡ Some Answer.Null }
     ensures text { is_null value.now ≡ false → IsOfDigits form → length value.now < 2 ^ 63 → HasSpelled current.old.reading form []
         → HasSpelled current.new.reading form (characters_in form (behind_mark form value.now)) }
+    ensures kept { IfSome current.old.reading.answer (λ a. current.new.reading.answer ≡ Some a) }
+    ensures key { current.new.reading.key ≡ current.old.reading.key }
     ensures rules { KeepsRules current.old.reading current.new.reading }
 {
     if is_null(value) {
@@ -236,7 +254,7 @@ fn read_long_line<R: Source, W: Sink, E: Sink>(
 ) -> Result<bool, Trouble>
     requires sought { inbox.old.sought ≡ end_of lines }
     requires none { HasNone (end_of lines) inbox.old.waiting }
-    requires long { 1 < length inbox.old.waiting }
+    requires long { length inbox.old.waiting ≡ room_size }
     ensures records { RecordsTo W.gone_out W.has_failed E.gone_out E.has_failed result (Shape.Lines lines) clerk.old clerk.new inbox.old inbox.new output.old output.new faults.old faults.new }
     ensures over { result ≡ Ok false → IsOver inbox.new }
     ensures sought { OnOk result (inbox.new.sought ≡ inbox.old.sought) }
@@ -262,7 +280,7 @@ fn read_long_line<R: Source, W: Sink, E: Sink>(
 /// Takes the first bytes of a long line, all that wait but for a last one that belongs together with the next.
 fn first_stretch<R: Source>(inbox: &mut Inbox<R>, current: &mut Record<'_>, lines: Lines) -> Stretch
     requires none { HasNone (end_of lines) inbox.old.waiting }
-    requires long { 1 < length inbox.old.waiting }
+    requires long { length inbox.old.waiting ≡ room_size }
     ensures takes { TakesFirst (end_of lines) inbox.old inbox.new }
     ensures sought { inbox.new.sought ≡ inbox.old.sought }
     ensures rules { KeepsRules current.old.reading current.new.reading }
@@ -338,12 +356,11 @@ fn take_piece(
     ensures rules { KeepsRules current.old.reading current.new.reading }
 {
     current.hold(piece);
-    let count = if is_last {
+    let text = if is_last {
         without_return(lines, piece)
     } else {
-        piece.len()
+        piece
     };
-    let (text, _) = piece.split_at(count);
     take_text(current, lines.form, stretch, text)
 }
 

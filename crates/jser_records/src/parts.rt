@@ -1,7 +1,7 @@
 //! The fields of a line: TAB is between them, one is the value, and the others are the KEY.
 
-ghost use Rattle.std.specs.Prelude.{◌≤◌, length};
-ghost use Rattle.jser_records.specs.Fields.{AreWithin};
+ghost use Rattle.std.specs.Prelude.{◌≤◌, ◌-◌, length, drop};
+ghost use Rattle.jser_records.specs.Fields.{AreWithin, IsField, IsFirstField, IsLastField, IsValue, part_of};
 
 use memchr::{memchr, memrchr};
 
@@ -20,6 +20,7 @@ pub(crate) struct Parts {
 /// empty, and all of the line is before it.
 pub(crate) fn parts_of(line: &[u8], field: Option<u64>) -> Parts
     ensures within { AreWithin (length line.now) result }
+    ensures value { IsValue field line.now (part_of line.now result) }
 {
     match field {
         None => last_part(line),
@@ -28,26 +29,34 @@ pub(crate) fn parts_of(line: &[u8], field: Option<u64>) -> Parts
 }
 
 /// The last field.
+#[tactic(auto, using(crate::proofs::FieldLemmas::last_behind, crate::proofs::FieldLemmas::last_all))]
 fn last_part(line: &[u8]) -> Parts
     ensures within { AreWithin (length line.now) result }
+    ensures value { IsLastField line.now (part_of line.now result) }
 {
-    let (front, from) = match memrchr(b'\t', line) {
-        Some(at) => (at, at + 1),
-        None => (0, 0),
-    };
-    Parts {
-        front,
-        from,
-        to: line.len(),
+    match memrchr(b'\t', line) {
+        Some(at) => Parts {
+            front: at,
+            from: at + 1,
+            to: line.len(),
+        },
+        None => Parts {
+            front: 0,
+            from: 0,
+            to: line.len(),
+        },
     }
 }
 
 /// The field of a number.
 fn numbered_part(line: &[u8], number: u64) -> Parts
     ensures within { AreWithin (length line.now) result }
+    ensures value { IsField (number - 1) line.now (part_of line.now result) }
 {
     let mut from = 0;
-    'fields: for _ in 1..number {
+    let mut left = number.saturating_sub(1);
+    'fields: while left > 0 {
+        left -= 1;
         let (_, rest) = line.split_at(from);
         match memchr(b'\t', rest) {
             Some(at) => from += at + 1,
@@ -60,14 +69,26 @@ fn numbered_part(line: &[u8], number: u64) -> Parts
             }
         }
     }
+    part_from(line, from)
+}
+
+/// The field that begins there.
+fn part_from(line: &[u8], from: usize) -> Parts
+    requires { from ≤ length line.now }
+    ensures within { AreWithin (length line.now) result }
+    ensures value { IsFirstField (drop from line.now) (part_of line.now result) }
+{
     let (_, rest) = line.split_at(from);
-    let to = match memchr(b'\t', rest) {
-        Some(at) => from + at,
-        None => line.len(),
-    };
-    Parts {
-        front: from.saturating_sub(1),
-        from,
-        to,
+    match memchr(b'\t', rest) {
+        Some(at) => Parts {
+            front: from.saturating_sub(1),
+            from,
+            to: from + at,
+        },
+        None => Parts {
+            front: from.saturating_sub(1),
+            from,
+            to: line.len(),
+        },
     }
 }

@@ -7,7 +7,7 @@ ghost use Rattle.jser_scan.specs.declared.Rules.{Rules as ToldRules};
 ghost use Rattle.jser_inputs.specs.Places.{first_place, is_whole, is_wrong};
 ghost use Rattle.jser_inputs.specs.Spelled.{spelling_of};
 ghost use Rattle.jser_records.specs.Keys.{HasNoKey};
-ghost use Rattle.jser_records.specs.Readings.{Counts, HasPlain, HasRead, HasSpelled, IsOfBytes, IsOfDigits, IsRight, KeepsRules};
+ghost use Rattle.jser_records.specs.Readings.{AddsKey, Counts, HasPlain, HasRead, HasSpelled, IsOfBytes, IsOfDigits, IsRight, KeepsRules};
 
 use crate::answer::Answer;
 use crate::judge::Judge;
@@ -67,7 +67,7 @@ impl<'f> Reading<'f> {
 
     /// Adds to its KEY.
     pub(crate) fn add_key(&mut self, bytes: &[u8])
-        ensures { (self.new ≡ record self.old { key = self.new.key }) ⊎ ((self.new ≡ record self.old { key = self.new.key; answer = Some Answer.LongKey }) × (self.new.key.is_lost ≡ true)) }
+        ensures { AddsKey self.old self.new }
     {
         if !self.key.add(bytes) {
             self.decide(Answer::LongKey);
@@ -131,6 +131,7 @@ impl<'f> Reading<'f> {
     pub(crate) fn spell(&mut self, text: &mut [u8])
         ensures spelled { (form : ToldForm) (before : List ℕ) → IsOfDigits form → length (before ++ text.old) < 2 ^ 63 → HasSpelled self.old form before
             → HasSpelled self.new form (before ++ text.old) }
+        ensures answered { IfSome self.old.answer (λ a. self.new ≡ self.old) }
         ensures rules { KeepsRules self.old self.new }
         ensures key { self.new.key ≡ self.old.key }
     {

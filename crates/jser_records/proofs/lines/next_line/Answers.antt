@@ -1,7 +1,7 @@
 use Rattle.std.proofs.Common.{subst}
 use Rattle.jser_records.specs.declared.layout.Shape.TheVariants as shape
 use Rattle.jser_records.specs.Arriving.{Arriving, ComesMore}
-use Rattle.jser_records.specs.Lines.{TakesLine, end_of}
+use Rattle.jser_records.specs.Lines.{TakesLine}
 use Rattle.jser_records.proofs.LineLemmas.{line_ended}
 use Rattle.jser_records.proofs.RecordLemmas.{records_both, records_quiet}
 use Rattle.jser_records.proofs.RoomLemmas.{took_more}
@@ -14,7 +14,7 @@ returns-in-Some-clause-records g c =
     let now = c.take_whole_line.new.inbox in
     line_ended c.args.lines was (record was { current = c.take_whole_line.new.current }) c.close.new.self c.args.inbox.now now _ _ _ _ _ _ c.close.result
     (quiet_changed was c.take_whole_line.new.current _ _ c.take_whole_line.ensures.rules)
-    (subst (λ (a : Arriving). TakesLine (end_of c.args.lines) a now) c.find.ensures.kept c.take_whole_line.ensures.takes) c.close.ensures.closes
+    (subst (λ (a : Arriving). TakesLine c.args.lines a now c.take_whole_line.new.current.reading) c.find.ensures.kept c.take_whole_line.ensures.takes) c.close.ensures.closes
 
 pub returns-in-Ok-true-clause-records : goal.returns-in-Ok-true-clause-records
 returns-in-Ok-true-clause-records g c =

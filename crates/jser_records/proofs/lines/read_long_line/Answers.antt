@@ -14,7 +14,7 @@ returns-in-None-clause-records g c =
     let last = record mid { current = c.next_stretch.new.current } in
     line_ended c.args.lines was last c.close.new.self c.args.inbox.now c.next_stretch.new.inbox _ _ _ _ _ _ c.close.result
     (quiet_then_changed was mid last _ _ _ _ c.stretches.invariant.quiet refl c.next_stretch.ensures.rules)
-    (line_taken (end_of c.args.lines) c.args.inbox.now c.stretches.inbox c.next_stretch.new.inbox c.stretches.invariant.takes c.in-None.ensures.takes) c.close.ensures.closes
+    (line_taken c.args.lines c.args.inbox.now c.stretches.inbox c.next_stretch.new.inbox c.next_stretch.new.current.reading c.stretches.invariant.takes c.in-None.ensures.takes) c.close.ensures.closes
 
 pub returns-in-Err-clause-records : goal.returns-in-Err-clause-records
 returns-in-Err-clause-records g c =

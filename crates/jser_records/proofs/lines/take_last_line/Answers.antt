@@ -1,6 +1,7 @@
-use Rattle.std.proofs.Common.{rules, ◌<◌, length, ap, arith}
+use Rattle.std.proofs.Common.{rules, ◌≤◌, ◌<◌, length, ap, subst, ◌∙◌, arith}
+use Rattle.std.proofs.lemmas.List.{take_all}
 use Rattle.jser_records.specs.declared.layout.Shape.TheVariants as shape
-use Rattle.jser_records.specs.Lines.{end_of}
+use Rattle.jser_records.specs.Lines.{IsShort, LineCame}
 use Rattle.jser_records.proofs.LineLemmas.{last_line, line_ended}
 use Rattle.jser_records.proofs.RecordLemmas.{records_none}
 use Rattle.jser_records.proofs.ToldLemmas.{quiet_changed}
@@ -14,8 +15,10 @@ returns-clause-records g c =
     let was = c.args.clerk.now in
     let from = c.args.inbox.now in
     let size = ap length c.waiting-count.ensures in
+    let all : length from.waiting ≤ length c.waiting-count.result.now = omega (arith, size) in
     let some : 0 < length from.waiting = search rules in
     line_ended c.args.lines was (record was { current = c.take_line.new.current }) c.close.new.self from c.pass.new.self _ _ _ _ _ _ c.close.result
     (quiet_changed was c.take_line.new.current _ _ c.take_line.ensures.rules)
-    (last_line (end_of c.args.lines) from c.pass.new.self (length c.waiting-count.result.now) c.requires.none some (omega (arith, size)) c.requires.ends c.pass.ensures)
+    (last_line c.args.lines from c.pass.new.self (length c.waiting-count.result.now) c.take_line.new.current.reading c.requires.none some all c.requires.ends c.pass.ensures
+    (subst (λ xs. IsShort c.args.lines xs → LineCame c.args.lines xs c.take_line.new.current.reading) (c.front.ensures ∙ take_all _ from.waiting all) c.take_line.ensures.came))
     c.close.ensures.closes

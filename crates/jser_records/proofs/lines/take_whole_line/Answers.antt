@@ -1,6 +1,9 @@
-use Rattle.jser_records.specs.Lines.{end_of}
+use Rattle.std.proofs.Common.{subst}
+use Rattle.jser_records.specs.Lines.{IsShort, LineCame}
 use Rattle.jser_records.proofs.LineLemmas.{whole_line}
 use Rattle.jser_records.proofs.lines.take_whole_line.Goals as goal
 
 pub returns-clause-takes : goal.returns-clause-takes
-returns-clause-takes g c = whole_line (end_of c.args.lines) c.args.inbox.now c.pass.new.self c.args.count c.requires.before c.pass.ensures
+returns-clause-takes g c =
+    whole_line c.args.lines c.args.inbox.now c.pass.new.self c.args.count c.take_line.new.current.reading c.requires.before c.pass.ensures
+    (subst (λ xs. IsShort c.args.lines xs → LineCame c.args.lines xs c.take_line.new.current.reading) c.front.ensures c.take_line.ensures.came)
