@@ -2,27 +2,27 @@
 
 // README: jser_printer
 use jser_prim::{Outbox, Sink};
-use jser_printer::{Field, Printer};
+use jser_printer::{Printer, Token};
 use std::alloc::AllocError;
 
-/// Writes these fields, and what is due after the last one.
-fn write_fields<W: Sink>(
+/// Writes these tokens, and what is due after the last one.
+fn write_tokens<W: Sink>(
     outbox: &mut Outbox,
     sink: &mut W,
     printer: &mut Printer<'_>,
-    fields: &[Field<'_>],
+    tokens: &[Token<'_>],
 ) -> Result<(), AllocError> {
-    for field in fields {
-        printer.write_next(outbox, sink, *field)?;
+    for token in tokens {
+        printer.write_next(outbox, sink, *token)?;
     }
     printer.write_all_due(outbox, sink)
 }
 // end
 
-mod fields;
 mod objects;
 mod single;
 mod streams;
+mod tokens;
 
 use jser_printer::OwnerNode;
 use std::alloc::AllocGlobal;
@@ -30,17 +30,17 @@ use std::process::Abort;
 use std::test::Fail;
 use test_support::Page;
 
-/// The fields are written as this text, with these owners, to a sink that takes a byte a call.
+/// The tokens are written as this text, with these owners, to a sink that takes a byte a call.
 fn assert_said(
     rt: &(impl Abort + AllocGlobal),
     owners: &[OwnerNode],
-    fields: &[Field<'_>],
+    tokens: &[Token<'_>],
     text: &[u8],
 ) -> Result<(), Fail> {
     let mut page = Page::new(rt.alloc(), 1, 4096);
     let mut outbox = Outbox::new();
     let mut printer = Printer::new(rt.alloc(), false, owners);
-    write_fields(&mut outbox, &mut page, &mut printer, fields)?;
+    write_tokens(&mut outbox, &mut page, &mut printer, tokens)?;
     outbox.flush(&mut page);
     assert!(rt; page.bytes.as_slice() == text);
     Ok(())
@@ -48,6 +48,6 @@ fn assert_said(
 
 #[test]
 fn null_in_words(rt: HostRuntime) -> Result<(), Fail> {
-    let fields = [Field::Header, Field::Tag(0x70)];
-    assert_said(&rt, &[], &fields, b"stream version 5\nnull\n")
+    let tokens = [Token::Header, Token::Tag(0x70)];
+    assert_said(&rt, &[], &tokens, b"stream version 5\nnull\n")
 }

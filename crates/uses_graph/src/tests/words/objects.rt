@@ -1,43 +1,43 @@
 //! Objects with raw values and values, and texts that are given by their bytes.
 
-use super::{assert_said, write_fields};
+use super::{assert_said, write_tokens};
 use jser_prim::Outbox;
-use jser_printer::{Field, OwnerNode, Plain, Printer};
+use jser_printer::{OwnerNode, Plain, Printer, Token};
 use std::alloc::{AllocError, AllocGlobal};
 use std::process::Abort;
 use std::test::Fail;
 use test_support::Page;
 
 /// An object of two raw values and a reference to itself, and a second one.
-const FIELDS: [Field<'static>; 28] = [
-    Field::Header,
-    Field::Tag(0x73),
-    Field::Tag(0x72),
-    Field::Text(&[0x41]),
-    Field::Suid(1),
-    Field::Flags(2),
-    Field::FieldCount(3),
-    Field::TypeCode(b'I'),
-    Field::Text(&[0x6D]),
-    Field::TypeCode(b'J'),
-    Field::Text(&[0x6E]),
-    Field::TypeCode(b'L'),
-    Field::Text(&[0x6F]),
-    Field::Tag(0x74),
-    Field::Text(&[0x4C, 0x41, 0x3B]),
-    Field::Tag(0x78),
-    Field::Tag(0x70),
-    Field::Raw(&[0, 0, 0, 5]),
-    Field::Raw(&[0, 0, 0, 0, 0, 0, 0, 7]),
-    Field::Tag(0x71),
-    Field::Handle(0x7E0002),
-    Field::Tag(0x73),
-    Field::Tag(0x71),
-    Field::Handle(0x7E0000),
-    Field::Raw(&[0, 0, 0, 6]),
-    Field::Raw(&[0, 0, 0, 0, 0, 0, 0, 8]),
-    Field::Tag(0x74),
-    Field::Text(&[0x79, 0x65, 0x73]),
+const TOKENS: [Token<'static>; 28] = [
+    Token::Header,
+    Token::Tag(0x73),
+    Token::Tag(0x72),
+    Token::Text(&[0x41]),
+    Token::Suid(1),
+    Token::Flags(2),
+    Token::FieldCount(3),
+    Token::TypeCode(b'I'),
+    Token::Text(&[0x6D]),
+    Token::TypeCode(b'J'),
+    Token::Text(&[0x6E]),
+    Token::TypeCode(b'L'),
+    Token::Text(&[0x6F]),
+    Token::Tag(0x74),
+    Token::Text(&[0x4C, 0x41, 0x3B]),
+    Token::Tag(0x78),
+    Token::Tag(0x70),
+    Token::Raw(&[0, 0, 0, 5]),
+    Token::Raw(&[0, 0, 0, 0, 0, 0, 0, 7]),
+    Token::Tag(0x71),
+    Token::Handle(0x7E0002),
+    Token::Tag(0x73),
+    Token::Tag(0x71),
+    Token::Handle(0x7E0000),
+    Token::Raw(&[0, 0, 0, 6]),
+    Token::Raw(&[0, 0, 0, 0, 0, 0, 0, 8]),
+    Token::Tag(0x74),
+    Token::Text(&[0x79, 0x65, 0x73]),
 ];
 
 /// What is written of them.
@@ -73,7 +73,7 @@ const OWNERS: [OwnerNode; 2] = [
 
 #[test]
 fn two_objects(rt: HostRuntime) -> Result<(), Fail> {
-    assert_said(&rt, &OWNERS, &FIELDS, WANT)
+    assert_said(&rt, &OWNERS, &TOKENS, WANT)
 }
 
 /// A string that is given by its bytes.
@@ -87,11 +87,11 @@ fn write_plain(
     };
     let mut outbox = Outbox::new();
     let mut printer = Printer::new(rt.alloc(), false, &[]);
-    write_fields(
+    write_tokens(
         &mut outbox,
         page,
         &mut printer,
-        &[Field::Header, Field::Tag(0x74)],
+        &[Token::Header, Token::Tag(0x74)],
     )?;
     printer.write_plain(&mut outbox, page, plain)?;
     outbox.flush(page);

@@ -2,24 +2,24 @@
 
 use super::assert_said;
 use jser_prim::{Outbox, Sink};
-use jser_printer::{Field, OwnerNode, Printer, write, write_decimal, write_quoted};
+use jser_printer::{OwnerNode, Printer, Token, write, write_decimal, write_quoted};
 use std::alloc::{AllocError, AllocGlobal};
 use std::process::Abort;
 use std::test::Fail;
 use test_support::Page;
 
 /// An externalizable object of a class whose name has units that do not stand for themselves.
-const EXTERNAL: [Field<'static>; 10] = [
-    Field::Header,
-    Field::Tag(0x73),
-    Field::Tag(0x72),
-    Field::Text(&[0x22, 0x41, 0x5C, 0xE9]),
-    Field::Suid(1),
-    Field::Flags(0x0C),
-    Field::FieldCount(0),
-    Field::Tag(0x78),
-    Field::Tag(0x70),
-    Field::Tag(0x78),
+const EXTERNAL: [Token<'static>; 10] = [
+    Token::Header,
+    Token::Tag(0x73),
+    Token::Tag(0x72),
+    Token::Text(&[0x22, 0x41, 0x5C, 0xE9]),
+    Token::Suid(1),
+    Token::Flags(0x0C),
+    Token::FieldCount(0),
+    Token::Tag(0x78),
+    Token::Tag(0x70),
+    Token::Tag(0x78),
 ];
 
 #[test]
@@ -38,11 +38,11 @@ object #0.7e0001
 }
 
 /// How an array of one element begins, whose class was named before.
-const ARRAY: [Field<'static>; 4] = [
-    Field::Tag(0x75),
-    Field::Tag(0x71),
-    Field::Handle(0x7E0000),
-    Field::ArrayLength(1),
+const ARRAY: [Token<'static>; 4] = [
+    Token::Tag(0x75),
+    Token::Tag(0x71),
+    Token::Handle(0x7E0000),
+    Token::ArrayLength(1),
 ];
 
 /// Writes a null inside so many arrays, in one that is the content of the stream.
@@ -52,11 +52,11 @@ fn write_nested<W: Sink>(
     printer: &mut Printer<'_>,
     levels: u32,
 ) -> Result<(), AllocError> {
-    write_each(outbox, sink, printer, &[Field::Header])?;
+    write_each(outbox, sink, printer, &[Token::Header])?;
     for _ in 0..levels {
         write_each(outbox, sink, printer, &ARRAY)?;
     }
-    write_each(outbox, sink, printer, &[Field::Tag(0x70)])
+    write_each(outbox, sink, printer, &[Token::Tag(0x70)])
 }
 
 /// How many spaces the last line begins with.
@@ -94,13 +94,13 @@ fn lines_begin_with_two_spaces_a_level(rt: HostRuntime) -> Result<(), Fail> {
     Ok(())
 }
 
-/// Of a field that is not wanted nothing is written.
+/// Of a token that is not wanted nothing is written.
 #[test]
-fn field_that_is_not_wanted(rt: HostRuntime) -> Result<(), Fail> {
+fn token_that_is_not_wanted(rt: HostRuntime) -> Result<(), Fail> {
     let mut page = Page::new(rt.alloc(), 1, 1000);
     let mut outbox = Outbox::new();
     let mut printer = Printer::new(rt.alloc(), false, &[]);
-    printer.write_next(&mut outbox, &mut page, Field::Flags(3))?;
+    printer.write_next(&mut outbox, &mut page, Token::Flags(3))?;
     outbox.flush(&mut page);
     assert!(rt; page.bytes.is_empty());
     Ok(())
@@ -132,22 +132,22 @@ fn quoted_texts(rt: HostRuntime) {
 }
 
 /// A block of 200 bytes.
-const BLOCK: [Field<'static>; 4] = [
-    Field::Header,
-    Field::Tag(0x77),
-    Field::BlockLength(200),
-    Field::Raw(&[0xAF; 200]),
+const BLOCK: [Token<'static>; 4] = [
+    Token::Header,
+    Token::Tag(0x77),
+    Token::BlockLength(200),
+    Token::Raw(&[0xAF; 200]),
 ];
 
-/// Writes these fields, one after the other.
+/// Writes these tokens, one after the other.
 fn write_each<W: Sink>(
     outbox: &mut Outbox,
     sink: &mut W,
     printer: &mut Printer<'_>,
-    fields: &[Field<'_>],
+    tokens: &[Token<'_>],
 ) -> Result<(), AllocError> {
-    for field in fields {
-        printer.write_next(outbox, sink, *field)?;
+    for token in tokens {
+        printer.write_next(outbox, sink, *token)?;
     }
     Ok(())
 }

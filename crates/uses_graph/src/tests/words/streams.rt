@@ -1,7 +1,7 @@
-//! Worked streams, from their fields alone: a walk knows what each is for.
+//! Worked streams, from their tokens alone: a walk knows what each is for.
 
 use super::assert_said;
-use jser_printer::{Field, OwnerNode};
+use jser_printer::{OwnerNode, Token};
 use std::test::Fail;
 
 /// `List`
@@ -32,30 +32,30 @@ fn linked_pair(rt: HostRuntime) -> Result<(), Fail> {
             elements: 0,
         },
     ];
-    let fields = [
-        Field::Header,
-        Field::Tag(0x73),
-        Field::Tag(0x72),
-        Field::Text(&LIST),
-        Field::Suid(0x69c8_8a15_4016_ae68),
-        Field::Flags(2),
-        Field::FieldCount(2),
-        Field::TypeCode(b'I'),
-        Field::Text(&VALUE),
-        Field::TypeCode(b'L'),
-        Field::Text(&NEXT),
-        Field::Tag(0x74),
-        Field::Text(&LIST_TYPE),
-        Field::Tag(0x78),
-        Field::Tag(0x70),
-        Field::Raw(&[0, 0, 0, 0x11]),
-        Field::Tag(0x73),
-        Field::Tag(0x71),
-        Field::Handle(0x7E0000),
-        Field::Raw(&[0, 0, 0, 0x13]),
-        Field::Tag(0x70),
-        Field::Tag(0x71),
-        Field::Handle(0x7E0003),
+    let tokens = [
+        Token::Header,
+        Token::Tag(0x73),
+        Token::Tag(0x72),
+        Token::Text(&LIST),
+        Token::Suid(0x69c8_8a15_4016_ae68),
+        Token::Flags(2),
+        Token::FieldCount(2),
+        Token::TypeCode(b'I'),
+        Token::Text(&VALUE),
+        Token::TypeCode(b'L'),
+        Token::Text(&NEXT),
+        Token::Tag(0x74),
+        Token::Text(&LIST_TYPE),
+        Token::Tag(0x78),
+        Token::Tag(0x70),
+        Token::Raw(&[0, 0, 0, 0x11]),
+        Token::Tag(0x73),
+        Token::Tag(0x71),
+        Token::Handle(0x7E0000),
+        Token::Raw(&[0, 0, 0, 0x13]),
+        Token::Tag(0x70),
+        Token::Tag(0x71),
+        Token::Handle(0x7E0003),
     ];
     let want = b"stream version 5
 object #0.7e0002
@@ -72,7 +72,7 @@ object #0.7e0002
         \"next\" = null
 ref #0.7e0003
 ";
-    assert_said(&rt, &owners, &fields, want)
+    assert_said(&rt, &owners, &tokens, want)
 }
 
 #[test]
@@ -81,25 +81,25 @@ fn array_list(rt: HostRuntime) -> Result<(), Fail> {
         number: 1,
         elements: 0,
     }];
-    let fields = [
-        Field::Header,
-        Field::Tag(0x73),
-        Field::Tag(0x72),
-        Field::Text(&ARRAY_LIST),
-        Field::Suid(0x7881_d21d_99c7_619d),
-        Field::Flags(3),
-        Field::FieldCount(1),
-        Field::TypeCode(b'I'),
-        Field::Text(&SIZE),
-        Field::Tag(0x78),
-        Field::Tag(0x70),
-        Field::Raw(&[0, 0, 0, 1]),
-        Field::Tag(0x77),
-        Field::BlockLength(4),
-        Field::Raw(&[0, 0, 0, 1]),
-        Field::Tag(0x74),
-        Field::Text(&[0x61]),
-        Field::Tag(0x78),
+    let tokens = [
+        Token::Header,
+        Token::Tag(0x73),
+        Token::Tag(0x72),
+        Token::Text(&ARRAY_LIST),
+        Token::Suid(0x7881_d21d_99c7_619d),
+        Token::Flags(3),
+        Token::FieldCount(1),
+        Token::TypeCode(b'I'),
+        Token::Text(&SIZE),
+        Token::Tag(0x78),
+        Token::Tag(0x70),
+        Token::Raw(&[0, 0, 0, 1]),
+        Token::Tag(0x77),
+        Token::BlockLength(4),
+        Token::Raw(&[0, 0, 0, 1]),
+        Token::Tag(0x74),
+        Token::Text(&[0x61]),
+        Token::Tag(0x78),
     ];
     let want = b"stream version 5
 object #0.7e0001
@@ -111,7 +111,7 @@ object #0.7e0001
     note block 4: 00000001
     note text #0.7e0002 \"a\"
 ";
-    assert_said(&rt, &owners, &fields, want)
+    assert_said(&rt, &owners, &tokens, want)
 }
 
 #[test]
@@ -120,18 +120,18 @@ fn int_array(rt: HostRuntime) -> Result<(), Fail> {
         number: 1,
         elements: 2,
     }];
-    let fields = [
-        Field::Header,
-        Field::Tag(0x75),
-        Field::Tag(0x72),
-        Field::Text(&[0x5B, 0x49]),
-        Field::Suid(0x4dba_6026_76ea_b2a5),
-        Field::Flags(2),
-        Field::FieldCount(0),
-        Field::Tag(0x78),
-        Field::Tag(0x70),
-        Field::ArrayLength(2),
-        Field::Raw(&[0, 0, 0, 1, 0xFF, 0xFF, 0xFF, 0xFF]),
+    let tokens = [
+        Token::Header,
+        Token::Tag(0x75),
+        Token::Tag(0x72),
+        Token::Text(&[0x5B, 0x49]),
+        Token::Suid(0x4dba_6026_76ea_b2a5),
+        Token::Flags(2),
+        Token::FieldCount(0),
+        Token::Tag(0x78),
+        Token::Tag(0x70),
+        Token::ArrayLength(2),
+        Token::Raw(&[0, 0, 0, 1, 0xFF, 0xFF, 0xFF, 0xFF]),
     ];
     let want = b"stream version 5
 array #0.7e0001 length 2
@@ -140,20 +140,20 @@ array #0.7e0001 length 2
   [0] 00000001
   [1] ffffffff
 ";
-    assert_said(&rt, &owners, &fields, want)
+    assert_said(&rt, &owners, &tokens, want)
 }
 
 #[test]
 fn reset_epochs(rt: HostRuntime) -> Result<(), Fail> {
-    let fields = [
-        Field::Header,
-        Field::Tag(0x74),
-        Field::Text(&[0x61]),
-        Field::Tag(0x79),
-        Field::Tag(0x74),
-        Field::Text(&[0x62]),
-        Field::Tag(0x71),
-        Field::Handle(0x7E0000),
+    let tokens = [
+        Token::Header,
+        Token::Tag(0x74),
+        Token::Text(&[0x61]),
+        Token::Tag(0x79),
+        Token::Tag(0x74),
+        Token::Text(&[0x62]),
+        Token::Tag(0x71),
+        Token::Handle(0x7E0000),
     ];
     let want = b"stream version 5
 text #0.7e0000 \"a\"
@@ -161,5 +161,5 @@ reset
 text #1.7e0000 \"b\"
 ref #1.7e0000
 ";
-    assert_said(&rt, &[], &fields, want)
+    assert_said(&rt, &[], &tokens, want)
 }
