@@ -119,7 +119,8 @@ impl Machine {
         self.then_tag(tally, piece, above, Phase::Top, TC_CLASSDESC)
     }
 
-    /// Takes tokens with which no count changes, and what comes after those of a descriptor.
+    /// Takes tokens with which no count changes, as many as come one after another, and what comes after those of a
+    /// descriptor.
     #[inline(always)]
     fn pass_class<G: Gate>(&mut self, gate: &G, tally: &mut Tally, piece: &[u8]) -> Passed
         requires can { CanPass self.old piece.now }
@@ -128,7 +129,7 @@ impl Machine {
         ensures passes { Passes (G.told gate.now) piece.now (bytes_passed result) self.old tally.old self.new tally.new }
         ensures progress { HasPassed piece.now (bytes_passed result) }
     {
-        match self.pass_group(gate, piece) {
+        match self.pass_quiets(gate, piece) {
             Passed::Stopped => Passed::Stopped,
             Passed::Took(used) => self.then_class(tally, piece, used),
         }

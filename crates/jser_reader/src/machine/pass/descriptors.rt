@@ -122,7 +122,7 @@ impl Machine {
 
     /// Takes a token that is open, or comes next, with those that mostly come after it.
     #[inline(always)]
-    pub(super) fn pass_group<G: Gate>(&mut self, gate: &G, piece: &[u8]) -> Passed
+    fn pass_group<G: Gate>(&mut self, gate: &G, piece: &[u8]) -> Passed
         requires can { CanPass self.old piece.now }
         requires some { 0 < length piece.now }
         requires quiet { IsQuiet self.old.phase }
@@ -133,6 +133,29 @@ impl Machine {
             Phase::TypeCode => self.pass_fields(gate, piece),
             Phase::Length2 => self.pass_text(gate, piece),
             _ => self.pass_quiet(gate, piece),
+        }
+    }
+
+    /// Takes tokens with which no count changes, as many as come one after another.
+    #[inline(always)]
+    pub(super) fn pass_quiets<G: Gate>(&mut self, gate: &G, piece: &[u8]) -> Passed
+        requires can { CanPass self.old piece.now }
+        requires some { 0 < length piece.now }
+        requires quiet { IsQuiet self.old.phase }
+        ensures passes { (tally : Tally) → Passes (G.told gate.now) piece.now (bytes_passed result) self.old tally self.new tally }
+        ensures progress { HasPassed piece.now (bytes_passed result) }
+    {
+        let mut used = 0;
+        'tokens: loop {
+            let (_, rest) = piece.split_at(used);
+            match self.pass_group(gate, rest) {
+                Passed::Stopped => return Passed::Stopped,
+                Passed::Took(more) => used += more,
+            }
+            let (_, others) = piece.split_at(used);
+            if others.is_empty() || !self.phase.is_quiet() || !self.has_room(others) {
+                return Passed::Took(used);
+            }
         }
     }
 }
