@@ -46,8 +46,10 @@ impl Machine {
         ensures passes { (gate : ToldGate) → IsGate gate → Passes gate piece.now (bytes_passed result) self.old tally.old self.new tally.new }
         ensures progress { HasPassed piece.now (bytes_passed result) }
     {
-        self.count(tally, piece[0]);
-        match self.end_one(piece[0]) {
+        let phase = self.phase;
+        let tag = piece[0];
+        self.count(tally, tag);
+        match self.end_one(phase, tag) {
             Flow::On => Passed::Took(1),
             Flow::Stopped => Passed::Stopped,
         }

@@ -150,8 +150,9 @@ impl Machine {
         if self.phase.is_quiet() {
             return;
         }
+        let at_top = self.phase == Phase::Top;
         self.count_tag(tally, byte);
-        if self.phase != Phase::Top {
+        if !at_top {
             return;
         }
         tally.contents = tally.contents.wrapping_add(1);

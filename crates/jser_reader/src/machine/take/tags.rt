@@ -8,16 +8,17 @@ use crate::machine::take::taken::Taken;
 use crate::phase::Phase;
 
 impl Machine {
-    /// Takes the one byte of the token that comes next.
+    /// Takes the one byte of the token that comes next, of this phase. Where the caller names the phase, its arm alone is left.
     #[tactic(auto, using(crate::proofs::TakeLemmas::no_other_one, crate::proofs::TakeLemmas::takes_top, crate::proofs::TakeLemmas::takes_note, crate::proofs::TakeLemmas::takes_value, crate::proofs::TakeLemmas::takes_class_tag, crate::proofs::TakeLemmas::takes_super_tag, crate::proofs::TakeLemmas::takes_text_tag, crate::proofs::TakeLemmas::takes_flags, crate::proofs::TakeLemmas::takes_type_code, crate::proofs::TakeLemmas::takes_block_length))]
     #[inline(always)]
-    pub(crate) fn end_one(&mut self, byte: u8) -> Flow
-        requires one { IsOne self.old.phase }
+    pub(crate) fn end_one(&mut self, phase: Phase, byte: u8) -> Flow
+        requires phase { self.old.phase ≡ phase }
+        requires one { IsOne phase }
         requires room { self.old.meter.at + 1 < 2 ^ 64 }
         ensures { TakesByte byte result self.old self.new }
     {
         self.at += 1;
-        match self.phase {
+        match phase {
             Phase::Top => self.top(byte),
             Phase::Note => self.note(byte),
             Phase::Value => self.value(byte),
@@ -40,7 +41,7 @@ impl Machine {
         requires room { self.old.meter.at + length piece.now < 2 ^ 64 }
         ensures { TakesFrom result piece.now self.old self.new }
     {
-        let flow = self.end_one(piece[0]);
+        let flow = self.end_one(self.phase, piece[0]);
         Taken::after(1, flow)
     }
 }
