@@ -132,6 +132,7 @@ impl Machine {
         match self.phase {
             Phase::TypeCode => self.pass_fields(gate, piece),
             Phase::Length2 => self.pass_text(gate, piece),
+            Phase::Prims => self.pass_known(gate, piece, Phase::Prims),
             _ => self.pass_quiet(gate, piece),
         }
     }
