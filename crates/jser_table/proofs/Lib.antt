@@ -7,6 +7,5 @@ pub mod LineLemmas
 pub mod PathLemmas
 pub mod FlagLemmas
 pub mod WalkLemmas
-pub mod StepLemmas
 pub mod FiledLemmas
 pub mod TableLemmas

@@ -8,7 +8,6 @@ pub mod Sections
 pub mod Lined
 pub mod Paths
 pub mod Descriptors
-pub mod Steps
 pub mod Jumps
 pub mod Kept
 pub mod Stored

@@ -2,7 +2,7 @@
 //!
 //! Each descriptor keeps a link to its parent and one that jumps further up, so a chain takes no memory
 //! beyond its own layer, and any layer of it is found in a number of steps in the order of its logarithm.
-ghost use Rattle.std.specs.Prelude.{List, take, count_by, ◌≡◌, ◌+◌, ◌<◌, ◌≤◌, ◌^◌, [], ◌∷◌, ◌++◌, length, slice_get, Some, OnOk, OnErr, IfSome, IfNone, None, IsSomeAnd, ◌-◌, option_map, vec_len, vec_capacity};
+ghost use Rattle.std.specs.Prelude.{take, count_by, ◌≡◌, ◌+◌, ◌<◌, ◌≤◌, ◌^◌, [], ◌∷◌, ◌++◌, length, slice_get, Some, OnOk, OnErr, IfSome, IfNone, None, IsSomeAnd, ◌-◌, option_map, vec_len, vec_capacity};
 ghost use Rattle.std.specs.Option.{ForSome};
 ghost use Rattle.jser_table.specs.Chains.{own_layer, all_serial, next_filled, is_filled, is_external, elements_of, chain_in, IsFront};
 ghost use Rattle.jser_table.specs.Codes.{size_of, primitive_codes, AreLeading};
@@ -12,12 +12,10 @@ ghost use Rattle.jser_table.specs.Lines.{line_in, next_line, LeadsTo};
 ghost use Rattle.jser_table.specs.Lined.{AreLined, LinesUnder, lines_of};
 ghost use Rattle.jser_table.specs.Paths.{Files, IsPathUnder, filed_in};
 ghost use Rattle.jser_table.specs.Jumps.{JumpsFar, TakesJump};
-ghost use Rattle.jser_table.specs.Steps.{AreBack, AreStepped, IsStepOf, StepsFrom};
-ghost use Rattle.jser_table.specs.declared.descriptor.Counted.TheVariants as counted;
 ghost use Rattle.jser_table.specs.Descriptors.{AreTold, IsHighest, GoesUp, LinksTo, IsUnder, IsTold, IsLast, IsLastUnder, AreShelved, IsFiled, chains_of, chain_of_parent, count_of, front_of};
 
 use crate::codes::{leading_of, leading_size, prim_size_in};
-use crate::descriptor::{Counted, Descriptor, Filed, Links, Step};
+use crate::descriptor::{Counted, Descriptor, Filed, Links};
 use crate::entry::MOST_CHAINS;
 use crate::kept::KeptLayer;
 use crate::layer::{Fit, Purpose};
@@ -31,8 +29,6 @@ pub(crate) struct Chains {
     descriptors: Vec<Descriptor>,
     /// The sections of those that have one.
     sections: Vec<Filed>,
-    /// What a walk from one looks at.
-    steps: Vec<Step>,
 }
 
 impl Model for Chains {
@@ -47,13 +43,10 @@ impl Model for Chains {
     ghost view = { λ a. record {
       listed = chains_of a.descriptors.items;
       lines = lines_of a.descriptors.items;
-      room = min (2 ^ 32 - 3 - vec_len a.descriptors)
-          (min (vec_capacity a.steps - vec_len a.steps) (min (vec_capacity a.descriptors - vec_len a.descriptors) (vec_capacity a.sections - vec_len a.sections)));
+      room = min (2 ^ 32 - 3 - vec_len a.descriptors) (min (vec_capacity a.descriptors - vec_len a.descriptors) (vec_capacity a.sections - vec_len a.sections));
     } };
 
-    ghost use Rattle.jser_table.specs.Steps.{AreStepped};
-
-    ghost invariant = { λ a. AreShelved a.descriptors.items a.sections.items × AreStepped a.descriptors.items a.steps.items };
+    ghost invariant = { λ a. AreShelved a.descriptors.items a.sections.items };
 }
 
 impl Chains {
@@ -66,7 +59,6 @@ impl Chains {
         Chains {
             descriptors: Vec::new(alloc),
             sections: Vec::new(alloc),
-            steps: Vec::new(alloc),
         }
     }
 
@@ -82,7 +74,6 @@ impl Chains {
             return Err(AllocError);
         }
         self.sections.reserve(additional)?;
-        self.steps.reserve(additional)?;
         self.descriptors.reserve(additional)
     }
 
@@ -103,10 +94,6 @@ impl Chains {
         let above = last_of(&self.descriptors, parent);
         file(&mut self.sections, &layer, number, above);
         let descriptor = descriptor_under(&self.descriptors, parent, layer, section);
-        push_step(
-            &mut self.steps,
-            step_of(&self.descriptors, descriptor.links),
-        );
         match self.descriptors.push(descriptor) {
             Ok(()) => number,
             Err(_) => unreachable!(),
@@ -238,13 +225,7 @@ impl Chains {
         requires { IsOn self.now.listed last section }
         ensures { IsNext self.now.listed last section result }
     {
-        section_after(
-            &self.descriptors,
-            &self.sections,
-            &self.steps,
-            last,
-            section,
-        )
+        section_after(&self.descriptors, &self.sections, last, section)
     }
 
     /// Forgets all chains, and keeps the room.
@@ -255,7 +236,6 @@ impl Chains {
     {
         self.descriptors.clear();
         self.sections.clear();
-        self.steps.clear();
     }
 }
 
@@ -460,12 +440,10 @@ fn first_of(descriptors: &[Descriptor], sections: &[Filed], place: usize, last: 
 fn section_after(
     descriptors: &[Descriptor],
     sections: &[Filed],
-    steps: &[Step],
     last: u32,
     section: u32,
 ) -> Option<u32>
     requires shelved { AreShelved descriptors.now sections.now }
-    requires stepped { AreStepped descriptors.now steps.now }
     requires on { IsOn (chains_of descriptors.now) last section }
     ensures { IsNext (chains_of descriptors.now) last section result }
 {
@@ -476,7 +454,7 @@ fn section_after(
     if own.path == filed_at(descriptors, sections, last).path && section < last {
         return Some(own.below);
     }
-    section_after_by_walk(descriptors, sections, steps, last, section)
+    section_after_by_walk(descriptors, sections, last, section)
 }
 
 /// The section that comes after this one in data that end with the section `last`, found by a walk up the chain, where the
@@ -485,12 +463,10 @@ fn section_after(
 fn section_after_by_walk(
     descriptors: &[Descriptor],
     sections: &[Filed],
-    steps: &[Step],
     last: u32,
     section: u32,
 ) -> Option<u32>
     requires shelved { AreShelved descriptors.now sections.now }
-    requires stepped { AreStepped descriptors.now steps.now }
     requires on { IsOn (chains_of descriptors.now) last section }
     ensures { IsNext (chains_of descriptors.now) last section result }
 {
@@ -500,7 +476,7 @@ fn section_after_by_walk(
     if descriptor_at(descriptors, own).count(Counted::Filled) <= before {
         return None;
     }
-    let next = highest_filled(steps, own, before);
+    let next = highest(descriptors, own, Counted::Filled, before);
     descriptor_at(descriptors, next).last
 }
 
@@ -578,73 +554,6 @@ fn highest(descriptors: &[Descriptor], start: usize, counted: Counted, bound: us
         place = higher;
     }
     place
-}
-
-/// The highest class of the chain at `start`, itself included, with more than `bound` layers that have something to read.
-fn highest_filled(steps: &[Step], start: usize, bound: usize) -> usize
-    requires back { AreBack steps.now }
-    requires start_in { start < length steps.now }
-    ensures inside { result < length steps.now }
-    ensures highest { (descriptors : List Descriptor) → AreTold descriptors → AreStepped descriptors steps.now
-        → bound < count_of counted.Filled (chain_in (chains_of descriptors) start)
-        → IsHighest counted.Filled bound (chain_in (chains_of descriptors) start) (chain_in (chains_of descriptors) result) }
-{
-    let mut place = start;
-    'walk: while let Some(higher) = step_over(steps, place, bound) {
-        place = higher;
-    }
-    place
-}
-
-/// Where the longest link of the class at this place leads behind which there are more filled layers than the bound, if there
-/// is one.
-fn step_over(steps: &[Step], place: usize, bound: usize) -> Option<usize>
-    requires { place < length steps.now }
-    ensures { StepsFrom steps.now place bound result }
-{
-    let step = &steps[place];
-    if step.jump_filled as usize > bound {
-        Some(step.jump as usize)
-    } else if step.parent_filled as usize > bound {
-        Some(step.parent as usize)
-    } else {
-        None
-    }
-}
-
-/// The step of a class with these links.
-#[tactic(auto, using(crate::proofs::ChainLemmas::length_chains_of))]
-fn step_of(descriptors: &[Descriptor], links: Option<Links>) -> Step
-    requires told { AreTold descriptors.now }
-    requires links_in { IfSome links (λ links. (links.parent < length descriptors.now) × (links.jump < length descriptors.now)) }
-    ensures { IsStepOf (chains_of descriptors.now) links result }
-{
-    match links {
-        Some(links) => Step {
-            parent: links.parent,
-            jump: links.jump,
-            parent_filled: descriptor_at(descriptors, links.parent as usize).filled,
-            jump_filled: descriptor_at(descriptors, links.jump as usize).filled,
-        },
-        None => Step {
-            parent: 0,
-            jump: 0,
-            parent_filled: 0,
-            jump_filled: 0,
-        },
-    }
-}
-
-/// Puts a step behind the others. Takes no memory.
-fn push_step(steps: &mut Vec<Step>, step: Step)
-    requires room { vec_len steps.old < vec_capacity steps.old }
-    ensures pushed { steps.new.items ≡ steps.old.items ++ step ∷ [] }
-    ensures room { vec_capacity steps.old - vec_len steps.old ≤ vec_capacity steps.new - vec_len steps.new + 1 }
-{
-    match steps.push(step) {
-        Ok(()) => (),
-        Err(_) => unreachable!(),
-    }
 }
 
 /// The superclass that the longest link leads to whose count is over the bound, if there is one.

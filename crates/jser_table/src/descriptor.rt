@@ -15,20 +15,6 @@ pub(crate) struct Links {
     pub(crate) jump: u32,
 }
 
-/// The links of a closed descriptor, with how many layers that have something to read the chains have to which they lead. A
-/// walk to a section looks at these alone: they are small, so that many lie together in memory.
-#[derive(Clone, Copy)]
-pub(crate) struct Step {
-    pub(crate) parent: u32,
-    pub(crate) jump: u32,
-    /// 0 for a class with no superclass.
-    pub(crate) parent_filled: u32,
-    /// 0 for a class with no superclass.
-    pub(crate) jump_filled: u32,
-}
-
-const _: () = prove!(size_of::<Step>() == 16);
-
 /// A closed descriptor.
 #[derive(Drop)]
 pub(crate) struct Descriptor {

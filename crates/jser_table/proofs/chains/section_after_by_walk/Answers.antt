@@ -3,7 +3,6 @@ use Rattle.std.proofs.Common.{◌≡◌, ◌∙◌, refl, arith, length, rules}
 use Rattle.jser_table.specs.Sections.{down_to}
 use Rattle.jser_table.specs.Descriptors.{chains_of}
 use Rattle.jser_table.proofs.FiledLemmas.{count_of_class, none_after, next_found}
-use Rattle.jser_table.proofs.StepLemmas.{steps_back}
 use Rattle.jser_table.proofs.chains.section_after_by_walk.Goals as goal
 
 pub returns-then-count-before : goal.returns-then-count-before
@@ -17,7 +16,7 @@ pub returns : goal.returns
 returns c =
     let ds = c.args.descriptors.now in
     let own : c.count-before.result ≡ length (down_to (chains_of ds) c.args.section) = c.count-before.ensures ∙ count_of_class _ _ _ _ _ c.filed_at-2.ensures.told refl c.descriptor_at.ensures in
-    next_found _ _ _ _ _ _ _ c.requires.on c.filed_at.ensures.told own c.descriptor_at-3.ensures (c.highest_filled-next.ensures.highest ds c.requires.shelved.told c.requires.stepped (search rules))
+    next_found _ _ _ _ _ _ _ c.requires.on c.filed_at.ensures.told own c.descriptor_at-3.ensures c.highest-next.ensures.highest
 
 -- The check finds what follows with no answer too; with one, it refuses a wrong body sooner.
 
@@ -34,7 +33,7 @@ pub descriptor_at-requires-2-clause-told : goal.descriptor_at-requires-2-clause-
 descriptor_at-requires-2-clause-told c = search rules
 
 pub descriptor_at-requires-3-clause-place_in : goal.descriptor_at-requires-3-clause-place_in
-descriptor_at-requires-3-clause-place_in c = omega (arith, c.highest_filled-next.ensures.inside, c.requires.stepped.count)
+descriptor_at-requires-3-clause-place_in c = search rules
 
 pub descriptor_at-requires-3-clause-told : goal.descriptor_at-requires-3-clause-told
 descriptor_at-requires-3-clause-told c = search rules
@@ -57,8 +56,11 @@ filed_at-requires-clause-number_in c = search rules
 pub filed_at-requires-clause-shelved : goal.filed_at-requires-clause-shelved
 filed_at-requires-clause-shelved c = search rules
 
-pub highest_filled-next-requires-clause-start_in : goal.highest_filled-next-requires-clause-start_in
-highest_filled-next-requires-clause-start_in c = omega (arith, c.filed_at.ensures.told.class_in, length_chains_of c.args.descriptors.now, c.requires.stepped.count)
+pub highest-next-requires-clause-over : goal.highest-next-requires-clause-over
+highest-next-requires-clause-over c = search rules
 
-pub highest_filled-next-requires-clause-back : goal.highest_filled-next-requires-clause-back
-highest_filled-next-requires-clause-back c = steps_back c.args.descriptors.now c.args.steps.now c.requires.shelved.told c.requires.stepped
+pub highest-next-requires-clause-start_in : goal.highest-next-requires-clause-start_in
+highest-next-requires-clause-start_in c = search (rules, length_chains_of)
+
+pub highest-next-requires-clause-told : goal.highest-next-requires-clause-told
+highest-next-requires-clause-told c = search rules

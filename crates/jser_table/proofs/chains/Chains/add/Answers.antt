@@ -7,19 +7,18 @@ use Rattle.jser_table.proofs.ChainLemmas.{length_chains_of, chains_push, told_pu
 use Rattle.jser_table.proofs.LineLemmas.{lines_push}
 use Rattle.jser_table.proofs.SectionLemmas.{sections_fewer}
 use Rattle.jser_table.proofs.FiledLemmas.{shelved_push}
-use Rattle.jser_table.proofs.StepLemmas.{stepped_push, links_inside}
 use Rattle.jser_table.proofs.chains.Chains.add.Goals as goal
 
 pub overflow_cast-section : goal.overflow_cast-section
 overflow_cast-section c =
     let ds = c.self.inside.descriptors.items in
-    let kept = c.self.invariant.0 in
+    let kept = c.self.invariant in
     omega (arith, sections_fewer (chains_of ds), length_chains_of ds, kept.filed.count, kept.fewer)
 
 pub file-requires-clause-fewer : goal.file-requires-clause-fewer
 file-requires-clause-fewer c =
     let ds = c.self.inside.descriptors.items in
-    let kept = c.self.invariant.0 in
+    let kept = c.self.invariant in
     omega (arith, sections_fewer (chains_of ds), length_chains_of ds, kept.filed.count, ap (λ (v : ChainList). v.room) c.self.view_is, c.requires.room)
 
 pub invariant_of-self : goal.invariant_of-self
@@ -35,20 +34,10 @@ invariant_of-self c =
     in
     let at_last : IsLast (chains_of own.descriptors.items) (chain_of_parent (chains_of own.descriptors.items) c.args.parent) c.last_of-above.result = rw (← c.deref.ensures.value) c.last_of-above.ensures in
     let lines : LinesUnder (lines_of own.descriptors.items) c.args.parent made.result.links =
-    rw (← c.deref-2.ensures.value) (made.ensures.lines (rw c.deref-2.ensures.value c.self.invariant.0.lined))
+    rw (← c.deref-2.ensures.value) (made.ensures.lines (rw c.deref-2.ensures.value c.self.invariant.lined))
     in
-    let few : length own.descriptors.items < 2 ^ 32 - 3 = omega (arith, ap (λ (v : ChainList). v.room) c.self.view_is, c.requires.room) in (
-      shelved_push own.descriptors.items c.push.new.self.items made.result c.args.parent c.args.layer c.last_of-above.result own.sections.items c.file.new.sections.items c.self.invariant.0 few c.in-Ok.ensures.items under at_last files lines,
-      stepped_push own.descriptors.items c.push.new.self.items own.steps.items c.push_step.new.steps.items made.result c.step_of.result c.args.parent c.args.layer c.self.invariant.0.told c.self.invariant.1
-          c.in-Ok.ensures.items under (rw (← c.deref-3.ensures.value) c.step_of.ensures) c.push_step.ensures.pushed,
-    )
-
-pub step_of-requires-clause-links_in : goal.step_of-requires-clause-links_in
-step_of-requires-clause-links_in c =
-    let own = c.self.inside in
-    let made = c.descriptor_under-descriptor in
-    let under : IsUnder (chains_of own.descriptors.items) c.args.parent c.args.layer made.result = rw (← c.deref-2.ensures.value) made.ensures.under in
-    rw c.deref-3.ensures.value (links_inside own.descriptors.items c.args.parent made.result.links under.links)
+    let few : length own.descriptors.items < 2 ^ 32 - 3 = omega (arith, ap (λ (v : ChainList). v.room) c.self.view_is, c.requires.room) in
+    shelved_push own.descriptors.items c.push.new.self.items made.result c.args.parent c.args.layer c.last_of-above.result own.sections.items c.file.new.sections.items c.self.invariant few c.in-Ok.ensures.items under at_last files lines
 
 -- The check finds what follows with no answer too; with one, it refuses a wrong body sooner.
 
