@@ -12,9 +12,11 @@ use Rattle.jser_table.specs.Codes.{AreLeading}
 use Rattle.jser_table.specs.Chains.{own_layer, is_filled, chain_in, IsFront}
 use Rattle.jser_table.specs.Sections.{filled_layers, sections_of, HasSection, down_to, or_no_layer, layer_of, under, IsOn, HoldsFor, IsNext, AreSections}
 use Rattle.jser_table.specs.Descriptors.{chain_above, chain_of_parent, chains_of, IsTold, IsUnder, IsLast, IsFiled, AreFiled, AreShelved, IsHighest}
-use Rattle.jser_table.specs.Paths.{section_in, no_filed, filed_in, path_of, below_of, leading_to, LeadsOn, ArePaths, IsPathUnder, FilesIf, Files}
+use Rattle.jser_table.specs.Upwards.{no_filed, filed_in, upward_under, IsUpward, IsAfter}
+use Rattle.jser_table.specs.Paths.{section_in, path_of, below_of, leading_to, LeadsOn, ArePaths, IsPathUnder, FilesIf, Files}
 use Rattle.jser_table.proofs.LayerLemmas.{IsFront-refl, IsFront-from, count_by_push, own_layer_push}
 use Rattle.jser_table.proofs.SectionLemmas.{sections_none, sections_push, sections_same, filled_push, length_filled, down_to_grows, layer_of_grows, new_down_to, new_layer_of}
+use Rattle.jser_table.proofs.UpwardLemmas.{upward_grows, upward_new}
 use Rattle.jser_table.proofs.PathLemmas.{paths_grow, paths_none, paths_push, path_front}
 use Rattle.jser_table.specs.Lined.{lines_of, LinesUnder}
 use Rattle.jser_table.proofs.LineLemmas.{lined_none, lined_push}
@@ -36,11 +38,12 @@ filed_grows chains chain number filed has told =
       own = rw (same, layer_same) told.own;
       holds = rw layer_same told.holds;
       leading = rw layer_same told.leading;
+      upward = upward_grows chains (chain ∷ []) number filed.upward has told.upward;
     }
 
 -- the section of the class that was closed last
-filed_new : (chains : List (List Layer)) (above : List Layer) (layer : Layer) (filed : Filed) → is_filled layer ≡ true → filed.class ≡ length chains → HoldsFor layer (section_in filed) → AreLeading layer.codes filed.leading → IsFiled (chains ++ (above ++ layer ∷ []) ∷ []) (length (sections_of chains)) filed
-filed_new chains above layer filed is here holds leading =
+filed_new : (chains : List (List Layer)) (above : List Layer) (layer : Layer) (filed : Filed) → is_filled layer ≡ true → filed.class ≡ length chains → HoldsFor layer (section_in filed) → AreLeading layer.codes filed.leading → IsUpward (chains ++ (above ++ layer ∷ []) ∷ []) (length (sections_of chains)) filed.upward → IsFiled (chains ++ (above ++ layer ∷ []) ∷ []) (length (sections_of chains)) filed
+filed_new chains above layer filed is here holds leading upward =
     let chain : List Layer = above ++ layer ∷ [] in
     let own_chain : chain_in (chains ++ chain ∷ []) filed.class ≡ chain = get_or_push chains chain [] filed.class (sym here) in
     let own : layer_of (chains ++ chain ∷ []) (length (sections_of chains)) ≡ layer = new_layer_of chains above layer is in
@@ -51,11 +54,12 @@ filed_new chains above layer filed is here holds leading =
       own = rw (own_chain, own) (own_layer_push above layer);
       holds = rw own holds;
       leading = rw own leading;
+      upward = upward;
     }
 
 -- a class with a section: it comes at the end
-pub filed_push : (chains : List (List Layer)) (above : List Layer) (layer : Layer) (sections : List Filed) (filed : Filed) → AreFiled chains sections → is_filled layer ≡ true → filed.class ≡ length chains → HoldsFor layer (section_in filed) → AreLeading layer.codes filed.leading → AreFiled (chains ++ (above ++ layer ∷ []) ∷ []) (sections ++ filed ∷ [])
-filed_push chains above layer sections filed are is here holds leading =
+pub filed_push : (chains : List (List Layer)) (above : List Layer) (layer : Layer) (sections : List Filed) (filed : Filed) → AreFiled chains sections → is_filled layer ≡ true → filed.class ≡ length chains → HoldsFor layer (section_in filed) → AreLeading layer.codes filed.leading → IsUpward (chains ++ (above ++ layer ∷ []) ∷ []) (length (sections_of chains)) filed.upward → AreFiled (chains ++ (above ++ layer ∷ []) ∷ []) (sections ++ filed ∷ [])
+filed_push chains above layer sections filed are is here holds leading upward =
     let longer : length (sections_of (chains ++ (above ++ layer ∷ []) ∷ [])) ≡ length (sections_of chains) + 1 =
     ap (λ (s : List (List Layer)). length s) (sections_push chains above layer is) ∙ length_push (sections_of chains) (filled_layers (above ++ layer ∷ []))
     in
@@ -68,7 +72,7 @@ filed_push chains above layer sections filed are is here holds leading =
         | inr after ↦
             let last : length sections ≡ number = omega (arith, length_push sections filed) in
             let same : x ≡ filed = read ∙ get_or_push sections filed x number last in
-            rw (same, sym last, sym are.count) (filed_new chains above layer filed is here holds leading)
+            rw (same, sym last, sym are.count) (filed_new chains above layer filed is here holds leading upward)
       ];
     }
 
@@ -101,6 +105,7 @@ linked_filed chains number next f is = record {
   own = is.own;
   holds = is.holds;
   leading = is.leading;
+  upward = is.upward;
 }
 
 set_filed : (chains : List (List Layer)) (sections : List Filed) (a next : ℕ) → a < length sections → AreFiled chains sections → AreFiled chains (set sections a (leading_to next (filed_in sections a)))
@@ -123,10 +128,12 @@ path_filed chains above path old new (inr on) are = rw on.new_is (set_filed chai
 
 -- one more class
 
-filed_if : (b : Bool) (chains : List (List Layer)) (front : List Layer) (layer : Layer) (above : Option ℕ) (old new : List Filed) → is_filled layer ≡ b → AreFiled chains old → FilesIf b layer (length chains) above old new → AreFiled (chains ++ (front ++ layer ∷ []) ∷ []) new
-filed_if true chains front layer above old new is are files =
-    rw files.added (filed_push chains front layer files.linked files.filed (path_filed chains above files.filed.path old files.linked files.path are) is files.class_is files.holds files.leading)
-filed_if false chains front layer above old new is are files = rw files (filed_same chains front layer old are is)
+filed_if : (b : Bool) (chains : List (List Layer)) (front : List Layer) (layer : Layer) (above : Option ℕ) (old new : List Filed) → is_filled layer ≡ b → IsLast chains front above → AreFiled chains old → FilesIf b layer (length chains) above old new → AreFiled (chains ++ (front ++ layer ∷ []) ∷ []) new
+filed_if true chains front layer above old new is at are files =
+    rw files.added
+    (filed_push chains front layer files.linked files.filed (path_filed chains above files.filed.path old files.linked files.path are) is files.class_is files.holds files.leading
+    (upward_new chains front layer above old files.filed.upward is are at files.upward))
+filed_if false chains front layer above old new is at are files = rw files (filed_same chains front layer old are is)
 
 paths_if : (b : Bool) (chains : List (List Layer)) (front : List Layer) (layer : Layer) (class : ℕ) (above : Option ℕ) (old new : List Filed) → is_filled layer ≡ b → length (sections_of chains) ≡ length old → IsLast chains front above → ArePaths chains old → FilesIf b layer class above old new → ArePaths (chains ++ (front ++ layer ∷ []) ∷ []) new
 paths_if true chains front layer class above old new is count at are files = paths_push chains front layer class above old new is count at files are
@@ -138,7 +145,7 @@ shelved_push old new d parent layer last sections filed are few is under at_last
   lined = lined_push old new d parent layer are.told are.lined is under lines;
   filed =
       rw (chains_push old new d parent layer is under)
-      (filed_if (is_filled layer) (chains_of old) (chain_of_parent (chains_of old) parent) layer last sections filed refl are.filed (rw (length_chains_of old) files));
+      (filed_if (is_filled layer) (chains_of old) (chain_of_parent (chains_of old) parent) layer last sections filed refl at_last are.filed (rw (length_chains_of old) files));
   paths =
       rw (chains_push old new d parent layer is under)
       (paths_if (is_filled layer) (chains_of old) (chain_of_parent (chains_of old) parent) layer (length old) last sections filed refl are.filed.count at_last are.paths files);
@@ -169,89 +176,10 @@ pub layer_of_class : (chains : List (List Layer)) (number place : ℕ) (filed : 
 layer_of_class chains number place filed d told is class =
     some_injective (sym (ap own_layer class.own ∙ own_layer_push (chain_above chains d.links) d.layer) ∙ ap (λ n. own_layer (chain_in chains n)) (sym is) ∙ told.own)
 
--- the count of a section's class is the number of layers down to it
-pub count_of_class : (chains : List (List Layer)) (number place : ℕ) (filed : Filed) (d : Descriptor) → IsFiled chains number filed → filed.class ≡ place → IsTold chains place d → d.filled ≡ length (down_to chains number)
-count_of_class chains number place filed d told is class =
-    class.known.filled ∙ sym (length_filled (chain_in chains place)) ∙ ap (λ n. length (filled_layers (chain_in chains n))) (sym is) ∙ ap length (sym told.chain)
-
--- The walk to the highest class whose count of filled layers is over the bound ends at a filled one.
-record EndsFilled (chains : List (List Layer)) (last bound : ℕ) (d : Descriptor) (whole : List Layer) : Type 0 where
-  above : List Layer
-  rest : List Layer
-  split : filled_layers whole ≡ above ++ d.layer ∷ rest
-  at : length above ≡ bound
-  own : filled_layers (chain_in chains last) ≡ above ++ d.layer ∷ []
-  filled : is_filled d.layer ≡ true
-
-ends_filled_at : (chains : List (List Layer)) (place bound : ℕ) (d : Descriptor) (whole : List Layer) → IsTold chains place d → IsHighest counted.Filled bound whole (chain_in chains place) → EndsFilled chains place bound d whole
-ends_filled_at chains place bound d whole told highest =
-    let front : List Layer = chain_in chains place in
-    let above : List Layer = chain_above chains d.links in
-    let ends : EndsIn front above d.layer = record { is = told.own } in
-    let least : count_by is_filled above ≤ bound = omega (arith, highest.least, ap (count_by is_filled) (front_of-EndsIn front above d.layer ends)) in
-    let pushed : count_by is_filled (above ++ d.layer ∷ []) ≡ count_by is_filled above + cond (is_filled d.layer) 1 0 = count_by_push above d.layer in
-    let over : bound < count_by is_filled above + cond (is_filled d.layer) 1 0 = omega (arith, highest.over, ap (count_by is_filled) told.own, pushed) in
-    let here : is_filled d.layer ≡ true = something_added (is_filled d.layer) (count_by is_filled above) bound least over in
-    let one : count_by is_filled above + cond (is_filled d.layer) 1 0 ≡ count_by is_filled above + 1 = ap (λ b. count_by is_filled above + cond b 1 0) here in
-    let own : filled_layers front ≡ filled_layers above ++ d.layer ∷ [] = ap filled_layers told.own ∙ filled_push above d.layer here in
-    record {
-      above = filled_layers above;
-      rest = filled_layers (drop (length front) whole);
-      split =
-          ap filled_layers highest.is_front.rest ∙ filter-append is_filled front (drop (length front) whole)
-          ∙ ap (λ f. f ++ filled_layers (drop (length front) whole)) own
-          ∙ append_assoc (filled_layers above) (d.layer ∷ []) (filled_layers (drop (length front) whole));
-      at = omega (arith, length_filled above, least, over, one);
-      own = own;
-      filled = here;
-    }
-
--- So its section comes just after so many others.
-pub section_found : (chains : List (List Layer)) (last place bound number : ℕ) (d : Descriptor) (whole : List Layer) → HasSection chains last → down_to chains last ≡ filled_layers whole → IsTold chains place d → IsHighest counted.Filled bound whole (chain_in chains place) → d.last ≡ Some number → IsOn chains last number × (drop bound (down_to chains last) ≡ layer_of chains number ∷ under chains last number)
-unfolding layer_of under
-section_found chains last place bound number d whole has is told highest here =
-    let e = ends_filled_at chains place bound d whole told highest in
-    let at_number : IsLast chains (chain_in chains place) (Some number) = subst (IsLast chains (chain_in chains place)) here told.last in
-    let own : down_to chains number ≡ e.above ++ d.layer ∷ [] = at_number.1 ∙ e.own in
-    let layer : or_no_layer (own_layer (down_to chains number)) ≡ d.layer = ap (λ layers. or_no_layer (own_layer layers)) own ∙ ap or_no_layer (own_layer_push e.above d.layer) in
-    let all : down_to chains last ≡ e.above ++ d.layer ∷ e.rest = is ∙ e.split in
-    let front : IsFront (down_to chains number) (down_to chains last) =
-    rw own (IsFront-from (e.above ++ d.layer ∷ []) e.rest (down_to chains last) (all ∙ sym (append_assoc e.above (d.layer ∷ []) e.rest)))
-    in (
-      record { last_in = has; section_in = at_number.0; front = front; filled = rw layer e.filled },
-      ap (drop bound) all ∙ drop_at e.above (d.layer ∷ e.rest) bound e.at
-          ∙ rw (layer, own, all)
-          (ap (λ rest. d.layer ∷ rest) (sym (ap (drop (length (e.above ++ d.layer ∷ []))) (sym (append_assoc e.above (d.layer ∷ []) e.rest)) ∙ drop_at (e.above ++ d.layer ∷ []) e.rest (length (e.above ++ d.layer ∷ [])) refl))),
-    )
-
 -- after the last one there is none
 pub none_after : (chains : List (List Layer)) (last section : ℕ) → length (down_to chains last) ≤ length (down_to chains section) → under chains last section ≡ []
 unfolding under
 none_after chains last section few = drop_all (length (down_to chains section)) (down_to chains last) few
-
--- a chain with a filled layer has a section
-no_last : (chains : List (List Layer)) (place bound : ℕ) (d : Descriptor) (whole : List Layer) → IsTold chains place d → IsHighest counted.Filled bound whole (chain_in chains place) → d.last ≡ None → ⊥
-no_last chains place bound d whole told highest none =
-    let e = ends_filled_at chains place bound d whole told highest in
-    let empty : filled_layers (chain_in chains place) ≡ [] = subst (IsLast chains (chain_in chains place)) none told.last in
-    omega (arith, ap length (sym empty ∙ e.own), length_push e.above d.layer)
-
-next_if : (chains : List (List Layer)) (last section place : ℕ) (whole : List Layer) (d : Descriptor) (next : Option ℕ) → d.last ≡ next → IsOn chains last section → down_to chains last ≡ filled_layers whole → IsTold chains place d → IsHighest counted.Filled (length (down_to chains section)) whole (chain_in chains place) → IsNext chains last section next
-unfolding under
-next_if chains last section place whole d None here on is told highest = absurd (no_last chains place (length (down_to chains section)) d whole told highest here)
-next_if chains last section place whole d (Some next) here on is told highest =
-    section_found chains last place (length (down_to chains section)) next d whole on.last_in is told highest here
-
--- the next section, by the walk
-pub next_found : (chains : List (List Layer)) (last section place before : ℕ) (own : Filed) (d : Descriptor) → IsOn chains last section → IsFiled chains last own → before ≡ length (down_to chains section) → IsTold chains place d → IsHighest counted.Filled before (chain_in chains own.class) (chain_in chains place) → IsNext chains last section d.last
-next_found chains last section place before own d on filed is told highest =
-    next_if chains last section place (chain_in chains own.class) d d.last refl on filed.chain told (rw (← is) highest)
-
--- the sections of a chain, by the walk to the first
-pub sections_found : (chains : List (List Layer)) (place first last : ℕ) (d : Descriptor) (whole : List Layer) → IsLast chains whole (Some last) → IsTold chains place d → IsHighest counted.Filled 0 whole (chain_in chains place) → d.last ≡ Some first → AreSections chains whole (Some record { first = first; last = last })
-sections_found chains place first last d whole at_last told highest here =
-    let found = section_found chains last place 0 first d whole at_last.0 at_last.1 told highest here in
-    (found.0, sym at_last.1 ∙ found.1)
 
 -- on a path
 
@@ -294,14 +222,18 @@ first_at_top ds sections whole first last are at_last here front one =
       sym at_last.1 ∙ front.rest ∙ ap (λ front. front ++ drop (length (down_to chains first)) (down_to chains last)) single,
     )
 
--- as the first section of the path of the last one, where its class has none above
-pub first_on_path : (ds : List Descriptor) (sections : List Filed) (whole : List Layer) (last path : ℕ) (filed : Filed) (d : Descriptor) → AreShelved ds sections → IsLast (chains_of ds) whole (Some last) → path ≡ path_of sections last → IsFiled (chains_of ds) path filed → IsTold (chains_of ds) filed.class d → d.filled ≡ 1 → AreSections (chains_of ds) whole (Some record { first = path; last = last })
-first_on_path ds sections whole last path filed d are at_last path_is is told one =
+-- as the first section of the path of the last one, where it has none above
+pub first_on_path : (ds : List Descriptor) (sections : List Filed) (whole : List Layer) (last path : ℕ) (filed : Filed) → AreShelved ds sections → IsLast (chains_of ds) whole (Some last) → path ≡ path_of sections last → IsFiled (chains_of ds) path filed → filed.upward.count ≡ 1 → AreSections (chains_of ds) whole (Some record { first = path; last = last })
+first_on_path ds sections whole last path filed are at_last path_is is one =
     let inside : last < length sections = omega (arith, at_last.0, are.filed.count) in
     let low : path_of sections last ≤ last = are.paths.begin last inside in
     let front = path_front (chains_of ds) sections (path_of sections last) last are.paths low inside (are.paths.first last inside) in
     first_at_top ds sections whole path last are at_last (omega (arith, at_last.0, low, path_is)) (rw path_is front)
-    (sym (count_of_class (chains_of ds) path filed.class filed d is refl told) ∙ one)
+    (sym is.upward.count ∙ one)
+
+-- as the one that a walk finds with none above it
+pub first_by_walk : (ds : List Descriptor) (sections : List Filed) (whole : List Layer) (last first : ℕ) → AreShelved ds sections → IsLast (chains_of ds) whole (Some last) → IsAfter (chains_of ds) last 0 first → AreSections (chains_of ds) whole (Some record { first = first; last = last })
+first_by_walk ds sections whole last first are at_last found = first_at_top ds sections whole first last are at_last found.inside found.front found.long
 
 -- as the last one itself, where a chain has but one
 pub alone : (ds : List Descriptor) (sections : List Filed) (whole : List Layer) (last : ℕ) → AreShelved ds sections → IsLast (chains_of ds) whole (Some last) → count_by is_filled whole ≡ 1 → AreSections (chains_of ds) whole (Some record { first = last; last = last })

@@ -5,6 +5,7 @@ pub mod SectionLemmas
 pub mod ChainLemmas
 pub mod LineLemmas
 pub mod PathLemmas
+pub mod UpwardLemmas
 pub mod FlagLemmas
 pub mod WalkLemmas
 pub mod FiledLemmas

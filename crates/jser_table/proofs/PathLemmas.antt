@@ -7,7 +7,8 @@ use Rattle.jser_table.specs.declared.descriptor.Filed.{Filed}
 use Rattle.jser_table.specs.Chains.{is_filled, IsFront}
 use Rattle.jser_table.specs.Sections.{sections_of, HasSection, down_to, layer_of}
 use Rattle.jser_table.specs.Descriptors.{IsLast}
-use Rattle.jser_table.specs.Paths.{no_filed, filed_in, path_of, below_of, leading_to, LeadsOn, ArePaths, FilesOne}
+use Rattle.jser_table.specs.Upwards.{no_filed, filed_in}
+use Rattle.jser_table.specs.Paths.{path_of, below_of, leading_to, LeadsOn, ArePaths, FilesOne}
 use Rattle.jser_table.proofs.LayerLemmas.{IsFront-refl, IsFront-from, IsFront-trans}
 use Rattle.jser_table.proofs.SectionLemmas.{down_to_grows, layer_of_grows, new_down_to, new_layer_of, filled_push}
 
@@ -177,7 +178,7 @@ paths_go_on chains old new last above longer at are =
 
 -- the section of the class that was closed last
 
-under_above : (chains : List (List Layer)) (front : List Layer) (layer : Layer) (above : ℕ) → is_filled layer ≡ true → IsLast chains front (Some above) → down_to (chains ++ (front ++ layer ∷ []) ∷ []) (length (sections_of chains)) ≡ down_to (chains ++ (front ++ layer ∷ []) ∷ []) above ++ layer_of (chains ++ (front ++ layer ∷ []) ∷ []) (length (sections_of chains)) ∷ []
+pub under_above : (chains : List (List Layer)) (front : List Layer) (layer : Layer) (above : ℕ) → is_filled layer ≡ true → IsLast chains front (Some above) → down_to (chains ++ (front ++ layer ∷ []) ∷ []) (length (sections_of chains)) ≡ down_to (chains ++ (front ++ layer ∷ []) ∷ []) above ++ layer_of (chains ++ (front ++ layer ∷ []) ∷ []) (length (sections_of chains)) ∷ []
 under_above chains front layer above filled at =
     let more : List (List Layer) = (front ++ layer ∷ []) ∷ [] in
     rw (down_to_grows chains more above at.0, new_layer_of chains front layer filled, at.1)

@@ -12,6 +12,7 @@ use Rattle.jser_table.specs.Chains.{own_layer, chain_in, all_serial, is_filled, 
 use Rattle.jser_table.specs.Sections.{HasSection, sections_of, down_to, layer_of, filled_layers, HoldsFor}
 use Rattle.jser_table.specs.declared.descriptor.Filed.{Filed}
 use Rattle.jser_table.specs.Lined.{AreLined}
+use Rattle.jser_table.specs.Upwards.{IsUpward}
 use Rattle.jser_table.specs.Paths.{section_in, ArePaths}
 
 -- the chain of this parent, if there is one
@@ -91,6 +92,7 @@ pub record IsFiled (chains : List (List Layer)) (number : ℕ) (filed : Filed) :
   pub own : own_layer (chain_in chains filed.class) ≡ Some (layer_of chains number)
   pub holds : HoldsFor (layer_of chains number) (section_in filed)
   pub leading : AreLeading (layer_of chains number).codes filed.leading
+  pub upward : IsUpward chains number filed.upward
 
 -- all sections are kept
 pub record AreFiled (chains : List (List Layer)) (sections : List Filed) : Type 0 where

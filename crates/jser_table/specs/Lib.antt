@@ -6,6 +6,7 @@ pub mod Entries
 pub mod Fits
 pub mod Sections
 pub mod Lined
+pub mod Upwards
 pub mod Paths
 pub mod Descriptors
 pub mod Jumps

@@ -1,22 +1,17 @@
 -- Paths. The section of the class that was closed first under another one goes on with that one's path; any other begins a
 -- path of its own. Along a path each section stands just under the one before, and keeps the number of the next.
-use Rattle.std.specs.Prelude.{ℕ, ◌≡◌, ◌<◌, ◌≤◌, ◌⊎◌, List, [], ◌∷◌, ◌++◌, length, slice_set, slice_index_or, Bool, true, false, Option, Some}
+use Rattle.std.specs.Prelude.{ℕ, ◌≡◌, ◌<◌, ◌≤◌, ◌⊎◌, List, [], ◌∷◌, ◌++◌, length, slice_set, Bool, true, false, Option, Some}
 use Rattle.jser_table.specs.declared.layer.Layer.{Layer}
 use Rattle.jser_table.specs.declared.section.Section.{Section}
 use Rattle.jser_table.specs.declared.descriptor.Filed.{Filed}
 use Rattle.jser_table.specs.Codes.{AreLeading}
 use Rattle.jser_table.specs.Chains.{is_filled}
 use Rattle.jser_table.specs.Sections.{down_to, layer_of, HoldsFor}
+use Rattle.jser_table.specs.Upwards.{filed_in, upward_under}
 
 -- what is kept of what a section holds
 abbrev pub section_in : Filed → Section
 section_in f = record { raw_bytes = f.raw_bytes; prims = f.prims; values = f.values; is_annotated = f.is_annotated }
-
-abbrev pub no_filed : Filed
-no_filed = record { raw_bytes = 0; prims = 0; values = 0; is_annotated = false; leading = 0; class = 0; path = 0; below = 0 }
-
-abbrev pub filed_in : List Filed → ℕ → Filed
-filed_in sections number = slice_index_or sections number no_filed
 
 -- the first section of the path of this one
 abbrev pub path_of : List Filed → ℕ → ℕ
@@ -49,6 +44,7 @@ leading_to next f = record {
   class = f.class;
   path = f.path;
   below = next;
+  upward = f.upward;
 }
 
 -- the next section goes on with the path of the one above, which was the last of it
@@ -71,6 +67,7 @@ pub record FilesOne (layer : Layer) (class : ℕ) (above : Option ℕ) (old new 
   pub class_is : filed.class ≡ class
   pub path : IsPathUnder above filed.path old linked
   pub last : filed.below ≡ length old
+  pub upward : filed.upward ≡ upward_under old above
   pub holds : HoldsFor layer (section_in filed)
   pub leading : AreLeading layer.codes filed.leading
   pub added : new ≡ linked ++ filed ∷ []

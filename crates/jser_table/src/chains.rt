@@ -6,16 +6,17 @@ ghost use Rattle.std.specs.Prelude.{take, count_by, ◌≡◌, ◌+◌, ◌<◌,
 ghost use Rattle.std.specs.Option.{ForSome};
 ghost use Rattle.jser_table.specs.Chains.{own_layer, all_serial, next_filled, is_filled, is_external, elements_of, chain_in, IsFront};
 ghost use Rattle.jser_table.specs.Codes.{size_of, primitive_codes, AreLeading};
-ghost use Rattle.jser_table.specs.Sections.{HasSection, sections_of, layer_of, HoldsFor, IsOn, IsNext, AreSections};
+ghost use Rattle.jser_table.specs.Sections.{HasSection, down_to, sections_of, layer_of, HoldsFor, IsOn, IsNext, AreSections};
 ghost use Rattle.jser_table.specs.Fits.{fit_of};
 ghost use Rattle.jser_table.specs.Lines.{line_in, next_line, LeadsTo};
 ghost use Rattle.jser_table.specs.Lined.{AreLined, LinesUnder, lines_of};
-ghost use Rattle.jser_table.specs.Paths.{Files, IsPathUnder, filed_in};
+ghost use Rattle.jser_table.specs.Upwards.{IsAfter, LeadUp, RisesOver, filed_in, upward_below, upward_in, upward_under};
+ghost use Rattle.jser_table.specs.Paths.{Files, IsPathUnder};
 ghost use Rattle.jser_table.specs.Jumps.{JumpsFar, TakesJump};
 ghost use Rattle.jser_table.specs.Descriptors.{AreTold, IsHighest, GoesUp, LinksTo, IsUnder, IsTold, IsLast, IsLastUnder, AreShelved, IsFiled, chains_of, chain_of_parent, count_of, front_of};
 
 use crate::codes::{leading_of, leading_size, prim_size_in};
-use crate::descriptor::{Counted, Descriptor, Filed, Links};
+use crate::descriptor::{Counted, Descriptor, Filed, Links, Upward};
 use crate::entry::MOST_CHAINS;
 use crate::kept::KeptLayer;
 use crate::layer::{Fit, Purpose};
@@ -258,6 +259,7 @@ fn file(sections: &mut Vec<Filed>, layer: &KeptLayer, class: u32, above: Option<
     requires room { vec_len sections.old < vec_capacity sections.old }
     requires fewer { vec_len sections.old < 2 ^ 32 - 3 }
     requires above_in { ForSome above (λ number. number < length sections.old.items) }
+    requires upwards { LeadUp sections.old.items }
     ensures filed { Files layer.now class above sections.old.items sections.new.items }
     ensures room { vec_capacity sections.old - vec_len sections.old ≤ vec_capacity sections.new - vec_len sections.new + 1 }
 {
@@ -265,12 +267,55 @@ fn file(sections: &mut Vec<Filed>, layer: &KeptLayer, class: u32, above: Option<
         return;
     }
     let number = sections.len() as u32;
+    let upward = upward_under(sections, above);
     let path = path_under(sections.as_mut_slice(), above);
     let leading = leading_of(layer.codes());
-    match sections.push(Filed::new(layer.section(), leading, class, path, number)) {
+    let filed = Filed::new(layer.section(), leading, class, path, number, upward);
+    match sections.push(filed) {
         Ok(()) => (),
         Err(_) => unreachable!(),
     }
+}
+
+/// Where a walk goes up from the next section, under the section `above`.
+fn upward_under(sections: &[Filed], above: Option<u32>) -> Upward
+    requires fewer { length sections.now < 2 ^ 32 - 3 }
+    requires above_in { ForSome above (λ number. number < length sections.now) }
+    requires upwards { LeadUp sections.now }
+    ensures { result ≡ upward_under sections.now above }
+{
+    match above {
+        Some(above) => upward_below(sections, above),
+        None => Upward::at_top(sections.len() as u32),
+    }
+}
+
+/// Where a walk goes up from the next section, just under this one: beyond its two last jumps where these are as long as
+/// each other, and else to it.
+fn upward_below(sections: &[Filed], above: u32) -> Upward
+    requires fewer { length sections.now < 2 ^ 32 - 3 }
+    requires above_in { above < length sections.now }
+    requires upwards { LeadUp sections.now }
+    ensures { result ≡ upward_below sections.now above }
+{
+    let near = upward_at(sections, above);
+    let middle = upward_at(sections, near.jump);
+    let top = upward_at(sections, middle.jump);
+    let are_alike = u64::from(near.count) + u64::from(top.count) == 2 * u64::from(middle.count);
+    let jump = if are_alike { middle.jump } else { above };
+    let count = near.count + 1;
+    Upward { above, jump, count }
+}
+
+/// Where a walk goes up from the section with this number.
+fn upward_at(sections: &[Filed], number: u32) -> Upward
+    requires inside { number < length sections.now }
+    requires upwards { LeadUp sections.now }
+    ensures is { result ≡ upward_in sections.now number }
+    ensures jump_in { result.jump ≤ number }
+    ensures within { result.count ≤ number + 1 }
+{
+    sections[number as usize].upward
 }
 
 /// The path of the next section under the section `above`: it goes on with that one's, where that was the last of it, and
@@ -419,19 +464,14 @@ fn sections_at(descriptors: &[Descriptor], sections: &[Filed], place: usize) -> 
 #[inline(never)]
 fn first_of(descriptors: &[Descriptor], sections: &[Filed], place: usize, last: u32) -> u32
     requires shelved { AreShelved descriptors.now sections.now }
-    requires place_in { place < length descriptors.now }
     requires last { IsLast (chains_of descriptors.now) (chain_in (chains_of descriptors.now) place) (Some last) }
     ensures { AreSections (chains_of descriptors.now) (chain_in (chains_of descriptors.now) place) (Some record { first = result; last = last }) }
 {
     let path = filed_at(descriptors, sections, last).path;
-    let class = filed_at(descriptors, sections, path).class as usize;
-    if descriptor_at(descriptors, class).filled == 1 {
-        return path;
-    }
-    let class = highest(descriptors, place, Counted::Filled, 0);
-    match descriptor_at(descriptors, class).last {
-        Some(first) => first,
-        None => unreachable!(),
+    if filed_at(descriptors, sections, path).upward.count == 1 {
+        path
+    } else {
+        section_below(descriptors, sections, last, 0)
     }
 }
 
@@ -457,9 +497,7 @@ fn section_after(
     section_after_by_walk(descriptors, sections, last, section)
 }
 
-/// The section that comes after this one in data that end with the section `last`, found by a walk up the chain, where the
-/// two are on no path.
-#[tactic(auto, using(crate::proofs::ChainLemmas::length_chains_of))]
+/// The section that comes after this one in data that end with the section `last`, where the two are on no path.
 fn section_after_by_walk(
     descriptors: &[Descriptor],
     sections: &[Filed],
@@ -470,14 +508,50 @@ fn section_after_by_walk(
     requires on { IsOn (chains_of descriptors.now) last section }
     ensures { IsNext (chains_of descriptors.now) last section result }
 {
-    let own = filed_at(descriptors, sections, last).class as usize;
-    let class = filed_at(descriptors, sections, section).class as usize;
-    let before = descriptor_at(descriptors, class).count(Counted::Filled);
-    if descriptor_at(descriptors, own).count(Counted::Filled) <= before {
+    let before = filed_at(descriptors, sections, section).upward.count;
+    if filed_at(descriptors, sections, last).upward.count <= before {
         return None;
     }
-    let next = highest(descriptors, own, Counted::Filled, before);
-    descriptor_at(descriptors, next).last
+    Some(section_below(descriptors, sections, last, before))
+}
+
+/// The section that has `before` others above it in data that end with the section `last`, found by a walk up from that.
+#[inline(never)]
+fn section_below(descriptors: &[Descriptor], sections: &[Filed], last: u32, before: u32) -> u32
+    requires shelved { AreShelved descriptors.now sections.now }
+    requires last_in { HasSection (chains_of descriptors.now) last }
+    requires over { before < length (down_to (chains_of descriptors.now) last) }
+    ensures { IsAfter (chains_of descriptors.now) last before result }
+{
+    let mut place = last;
+    'walk: while let Some(higher) = section_over(descriptors, sections, place, before) {
+        place = higher;
+    }
+    place
+}
+
+/// The section above this one that the longest link leads to which still has as many as `before` above it, if there is one.
+fn section_over(
+    descriptors: &[Descriptor],
+    sections: &[Filed],
+    place: u32,
+    before: u32,
+) -> Option<u32>
+    requires shelved { AreShelved descriptors.now sections.now }
+    requires place_in { HasSection (chains_of descriptors.now) place }
+    requires over { before < length (down_to (chains_of descriptors.now) place) }
+    ensures up { IfSome result (RisesOver (chains_of descriptors.now) before place) }
+    ensures here { IfNone result (length (down_to (chains_of descriptors.now) place) ≡ before + 1) }
+{
+    let Upward { above, jump, count } = filed_at(descriptors, sections, place).upward;
+    if count - 1 <= before {
+        return None;
+    }
+    if filed_at(descriptors, sections, jump).upward.count > before {
+        Some(jump)
+    } else {
+        Some(above)
+    }
 }
 
 /// The layer at this index of the chain at `start`.

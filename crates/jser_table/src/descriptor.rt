@@ -2,6 +2,7 @@
 ghost use Rattle.std.specs.Prelude.{◌≡◌, ◌<◌, ◌≤◌, ◌^◌, ◌-◌, [], ◌∷◌, Some, None};
 ghost use Rattle.jser_table.specs.Descriptors.{told_count, Knows, KnowsBelow};
 ghost use Rattle.jser_table.specs.Paths.{section_in};
+ghost use Rattle.jser_table.specs.Upwards.{at_top};
 
 use crate::kept::KeptLayer;
 use crate::section::Section;
@@ -31,7 +32,31 @@ pub(crate) struct Descriptor {
     pub(crate) is_serial: bool,
 }
 
-/// A section in the list of sections. It lies flat, so it takes 24 bytes.
+/// Where a walk goes up from a section: to the one just above it in the data of an object, or to one further up, as a class
+/// has its `Links`. The highest section leads to itself. A walk to a section meets sections alone, and no descriptors, which
+/// are larger.
+#[derive(Clone, Copy)]
+pub(crate) struct Upward {
+    pub(crate) above: u32,
+    pub(crate) jump: u32,
+    /// How many sections the data have down to this one, itself included.
+    pub(crate) count: u32,
+}
+
+impl Upward {
+    /// The section with this number has none above it.
+    pub(crate) fn at_top(number: u32) -> Upward
+        ensures { result ≡ at_top number }
+    {
+        Upward {
+            above: number,
+            jump: number,
+            count: 1,
+        }
+    }
+}
+
+/// A section in the list of sections. It lies flat, so it takes 36 bytes.
 ///
 /// The section of the class that was closed first under another one goes on with that one's path; any other begins a path.
 #[derive(Drop)]
@@ -48,18 +73,27 @@ pub(crate) struct Filed {
     pub(crate) path: u32,
     /// The next section of its path; itself where it is the last.
     pub(crate) below: u32,
+    pub(crate) upward: Upward,
 }
 
-const _: () = prove!(size_of::<Filed>() == 24);
+const _: () = prove!(size_of::<Filed>() == 36);
 
 impl Filed {
     /// The section of this class, with this number: the last of its path as yet.
-    pub(crate) fn new(section: Section, leading: u16, class: u32, path: u32, number: u32) -> Filed
+    pub(crate) fn new(
+        section: Section,
+        leading: u16,
+        class: u32,
+        path: u32,
+        number: u32,
+        upward: Upward,
+    ) -> Filed
         ensures section { section_in result ≡ section }
         ensures leading { result.leading ≡ leading }
         ensures class { result.class ≡ class }
         ensures path { result.path ≡ path }
         ensures below { result.below ≡ number }
+        ensures upward { result.upward ≡ upward }
     {
         Filed {
             raw_bytes: section.raw_bytes,
@@ -70,6 +104,7 @@ impl Filed {
             class,
             path,
             below: number,
+            upward,
         }
     }
 
