@@ -1,13 +1,14 @@
 -- Chains of closed descriptors: one more descriptor, fronts of chains, and what the links of a descriptor
 -- lead to.
-use Rattle.std.proofs.Common.{◌≡◌, ℕ, ◌+◌, ◌<◌, ◌≤◌, Bool, ◌&&◌, cond, List, [], ◌∷◌, ◌++◌, length, fold, get_or, Option, Some, None, option_map, refl, ap, sym, ◌∙◌, subst, arith, inl, inr}
+use Rattle.std.proofs.Common.{◌≡◌, ℕ, ◌+◌, ◌<◌, ◌≤◌, Bool, true, ◌&&◌, cond, List, [], ◌∷◌, ◌++◌, length, fold, Option, Some, None, option_map, refl, ap, sym, ◌∙◌, subst, arith, inl, inr}
 use Rattle.std.proofs.lemmas.Bool.{cases_lt}
 use Rattle.std.proofs.lemmas.List.{get_or_append_left, get_or_push, length_push}
-use Rattle.std.proofs.lemmas.List.Sums.{fold_push}
+use Rattle.std.proofs.lemmas.List.Sums.{fold_push, count_by-le-length}
 use Rattle.jser_table.specs.declared.layer.Layer.{Layer}
 use Rattle.jser_table.specs.declared.descriptor.Links.{Links}
 use Rattle.jser_table.specs.declared.descriptor.Descriptor.{Descriptor}
-use Rattle.jser_table.proofs.LayerLemmas.{IsFront-append, IsFront-trans, count_by_push, and_true, all_serial_push, own_layer_push}
+use Rattle.jser_table.specs.declared.descriptor.Above.{Above}
+use Rattle.jser_table.proofs.LayerLemmas.{IsFront-append, IsFront-trans, count_by_push, all_serial_push, own_layer_push}
 use Rattle.jser_table.proofs.SectionLemmas.{last_grows, last_under}
 use Rattle.jser_table.specs.declared.layer.Purpose.{Purpose}
 use Rattle.jser_table.specs.declared.layer.Fit.{Fit}
@@ -15,7 +16,7 @@ use Rattle.jser_table.specs.Fits.{class_fit, fit_of_own, fit_of}
 use Rattle.jser_table.specs.Sections.{sections_of}
 use Rattle.jser_table.specs.Codes.{size_of}
 use Rattle.jser_table.specs.Chains.{is_externalizable, is_external_layer, is_external, elements_of_kind, elements_of_layer, elements_of, own_layer, is_serial, is_filled, chain_in, IsFront}
-use Rattle.jser_table.specs.Descriptors.{chain_above, with_chain, chains_of, AreLinks, Knows, IsTold, AreTold, LinksTo, LinkUnder, IsUnder, IsLast, IsLastUnder, chain_of_parent, KnowsBelow}
+use Rattle.jser_table.specs.Descriptors.{chain_above, with_chain, chains_of, AreLinks, IsTold, AreTold, LinkUnder, IsAbove, IsUnder, Knows, IsLast, IsLastUnder, chain_of_parent, descriptor_under}
 
 chains_of-push : (ds : List Descriptor) (d : Descriptor) → chains_of (ds ++ d ∷ []) ≡ with_chain (chains_of ds) d
 unfolding chains_of
@@ -115,42 +116,43 @@ pub chains_push : (old new : List Descriptor) (d : Descriptor) (parent : Option 
 chains_push old new d parent layer is under =
     ap chains_of is ∙ chains_of-push old d ∙ rw (above_of_parent (chains_of old) parent d.links under.links, under.layer_is) refl
 
--- what is known of a chain with one more layer
+-- the superclasses of a class, and its descriptor under them
 
-pub knows_root : (layer : Layer) (d : Descriptor) → d.layers ≡ 1 → d.filled ≡ cond (is_filled layer) 1 0 → d.is_serial ≡ is_serial layer → Knows (layer ∷ []) d
-knows_root layer d layers filled serial = record { layers = layers; filled = filled ∙ omega arith; serial = serial ∙ sym (and_true (is_serial layer)) }
-
-pub knows_below : (parent d : Descriptor) (layer : Layer) → d.layers ≡ parent.layers + 1 → d.filled ≡ parent.filled + cond (is_filled layer) 1 0 → d.is_serial ≡ (parent.is_serial && is_serial layer) → KnowsBelow parent layer d
-knows_below parent d layer layers filled serial = λ chain known. record {
-  layers = layers ∙ ap (λ n. n + 1) known.layers ∙ sym (length_push chain layer);
-  filled = filled ∙ ap (λ n. n + cond (is_filled layer) 1 0) known.filled ∙ sym (count_by_push chain layer);
-  serial = serial ∙ ap (λ b. b && is_serial layer) known.serial ∙ sym (all_serial_push chain layer);
+pub above_none : (ds : List Descriptor) (parent : Option ℕ) → parent ≡ None → IsAbove (chains_of ds) parent record { links = None; layers = 0; filled = 0; last = None; is_serial = true }
+above_none ds parent is = rw is record {
+  layers = refl;
+  filled = refl;
+  serial = refl;
+  within = omega arith;
+  fewer = omega arith;
+  links = tt;
+  last = refl;
 }
 
--- the descriptor that is made of a layer alone, or of a parent, a jump and a layer
-
-pub under_none : (ds : List Descriptor) (parent : Option ℕ) (layer : Layer) (section : ℕ) (last : Option ℕ) (d : Descriptor) → parent ≡ None → section ≡ length (sections_of (chains_of ds)) → IsLastUnder layer section None last → d.layer ≡ layer → d.links ≡ None → d.last ≡ last → Knows (layer ∷ []) d → IsUnder (chains_of ds) parent layer d
-under_none ds parent layer section last d is here under layer_is links_are last_is known = rw is record {
-  layer_is = layer_is;
-  links = rw links_are tt;
-  known = known;
-  within = omega (arith, known.layers);
-  last = rw last_is (last_under (chains_of ds) [] layer section None last here refl under);
+pub above_parent : (ds : List Descriptor) (parent : Option ℕ) (number jump : ℕ) (own : Descriptor) → parent ≡ Some number → number < length ds → IsTold (chains_of ds) number own → jump < length ds → IsFront (chain_in (chains_of ds) jump) (chain_in (chains_of ds) number) → IsAbove (chains_of ds) parent record { links = Some record { parent = number; jump = jump }; layers = own.layers; filled = own.filled; last = own.last; is_serial = own.is_serial }
+above_parent ds parent number jump own is inside told jump_in front = rw is record {
+  layers = told.known.layers;
+  filled = told.known.filled;
+  serial = told.known.serial;
+  within = omega (arith, told.within, inside, length_chains_of ds);
+  fewer = omega (arith, told.known.layers, told.known.filled, count_by-le-length is_filled (chain_in (chains_of ds) number));
+  links = record { parent_is = refl; parent_in = rw (length_chains_of ds) inside; jump_in = rw (length_chains_of ds) jump_in; jump_front = front };
+  last = told.last;
 }
 
-pub under_parent : (ds : List Descriptor) (parent : Option ℕ) (number jump : ℕ) (layer : Layer) (section : ℕ) (last : Option ℕ) (above d : Descriptor) → AreTold ds → number < length ds → above ≡ get_or ds number above → parent ≡ Some number → jump < length ds → IsFront (chain_in (chains_of ds) jump) (chain_in (chains_of ds) number) → section ≡ length (sections_of (chains_of ds)) → IsLastUnder layer section above.last last → d.layer ≡ layer → d.links ≡ Some record { parent = number; jump = jump } → d.last ≡ last → KnowsBelow above layer d → IsUnder (chains_of ds) parent layer d
-under_parent ds parent number jump layer section last above d told inside read is jump_in front here under layer_is links_are last_is below =
-    let at_parent : IsTold (chains_of ds) number above = told number above inside read in
-    let known : Knows (chain_in (chains_of ds) number ++ layer ∷ []) d = below (chain_in (chains_of ds) number) at_parent.known in
-    let links : LinksTo (chains_of ds) number record { parent = number; jump = jump } =
-    record { parent_is = refl; parent_in = rw (length_chains_of ds) inside; jump_in = rw (length_chains_of ds) jump_in; jump_front = front }
-    in
-    record {
-      layer_is = layer_is;
-      links = rw (is, links_are) links;
-      known = rw is known;
-      within = omega (arith, known.layers, length_push (chain_in (chains_of ds) number) layer, at_parent.known.layers, at_parent.within, length_chains_of ds);
-      last = rw (is, last_is) (last_under (chains_of ds) (chain_in (chains_of ds) number) layer section above.last last here at_parent.last under);
+pub under_above : (chains : List (List Layer)) (parent : Option ℕ) (layer : Layer) (section : ℕ) (above : Above) (last : Option ℕ) (d : Descriptor) → IsAbove chains parent above → section ≡ length (sections_of chains) → IsLastUnder layer section above.last last → d ≡ descriptor_under above layer last → IsUnder chains parent layer d
+under_above chains parent layer section above last d is here last_is made =
+    let chain : List Layer = chain_of_parent chains parent in
+    rw made record {
+      layer_is = refl;
+      links = is.links;
+      known = record {
+        layers = ap (λ n. n + 1) is.layers ∙ sym (length_push chain layer);
+        filled = ap (λ n. n + cond (is_filled layer) 1 0) is.filled ∙ sym (count_by_push chain layer);
+        serial = ap (λ b. b && is_serial layer) is.serial ∙ sym (all_serial_push chain layer);
+      };
+      within = omega (arith, is.within);
+      last = last_under chains chain layer section above.last last here is.last last_is;
     }
 
 -- whether a class fits, by what its descriptor tells

@@ -1,27 +1,24 @@
 -- The list of sections beside that of closed descriptors: one more class, and what a section and the walks up a
 -- chain tell of the sections of an object.
-use Rattle.std.proofs.Common.{◌≡◌, ℕ, ◌+◌, ◌-◌, ◌<◌, ◌≤◌, ◌^◌, Bool, true, false, cond, IsTrue, List, [], ◌∷◌, ◌++◌, length, drop, set, get_or, count_by, Option, Some, None, refl, ap, sym, ◌∙◌, subst, arith, append_assoc, inl, inr}
+use Rattle.std.proofs.Common.{◌≡◌, ℕ, ◌+◌, ◌-◌, ◌<◌, ◌≤◌, ◌^◌, Bool, true, false, IsTrue, List, [], ◌∷◌, ◌++◌, length, drop, set, get_or, count_by, Option, Some, refl, ap, sym, ◌∙◌, arith, append_assoc, inl, inr}
 use Rattle.std.proofs.lemmas.Bool.{cases_lt, cases_eq, false≢true}
 use Rattle.std.proofs.lemmas.List.{get_or_default, get_or_append_left, get_or_push, get_or-set_same, get_or-set_other, length-set, length_push, drop_at, drop_all}
-use Rattle.std.proofs.lemmas.List.Elements.{filter-append}
 use Rattle.jser_table.specs.declared.layer.Layer.{Layer}
 use Rattle.jser_table.specs.declared.descriptor.Descriptor.{Descriptor}
 use Rattle.jser_table.specs.declared.descriptor.Filed.{Filed}
-use Rattle.jser_table.specs.declared.descriptor.Counted.TheVariants as counted
 use Rattle.jser_table.specs.Codes.{AreLeading}
 use Rattle.jser_table.specs.Chains.{own_layer, is_filled, chain_in, IsFront}
 use Rattle.jser_table.specs.Sections.{filled_layers, sections_of, HasSection, down_to, or_no_layer, layer_of, under, IsOn, HoldsFor, IsNext, AreSections}
-use Rattle.jser_table.specs.Descriptors.{chain_above, chain_of_parent, chains_of, IsTold, IsUnder, IsLast, IsFiled, AreFiled, AreShelved, IsHighest}
-use Rattle.jser_table.specs.Upwards.{no_filed, filed_in, upward_under, IsUpward, IsAfter}
+use Rattle.jser_table.specs.Descriptors.{chain_above, chain_of_parent, chains_of, IsTold, IsUnder, IsLast, IsFiled, AreFiled, AreShelved}
+use Rattle.jser_table.specs.Upwards.{no_filed, filed_in, IsUpward, IsAfter}
 use Rattle.jser_table.specs.Paths.{section_in, path_of, below_of, leading_to, LeadsOn, ArePaths, IsPathUnder, FilesIf, Files}
-use Rattle.jser_table.proofs.LayerLemmas.{IsFront-refl, IsFront-from, count_by_push, own_layer_push}
-use Rattle.jser_table.proofs.SectionLemmas.{sections_none, sections_push, sections_same, filled_push, length_filled, down_to_grows, layer_of_grows, new_down_to, new_layer_of}
+use Rattle.jser_table.proofs.LayerLemmas.{IsFront-refl, own_layer_push}
+use Rattle.jser_table.proofs.SectionLemmas.{sections_none, sections_push, sections_same, length_filled, down_to_grows, layer_of_grows, new_down_to, new_layer_of}
 use Rattle.jser_table.proofs.UpwardLemmas.{upward_grows, upward_new}
 use Rattle.jser_table.proofs.PathLemmas.{paths_grow, paths_none, paths_push, path_front}
 use Rattle.jser_table.specs.Lined.{lines_of, LinesUnder}
 use Rattle.jser_table.proofs.LineLemmas.{lined_none, lined_push}
 use Rattle.jser_table.proofs.ChainLemmas.{chains_of_none, length_chains_of, told_push, chains_push}
-use Rattle.jser_table.proofs.WalkLemmas.{EndsIn, front_of-EndsIn, something_added}
 
 some_injective : {X : Type 0} {x y : X} → Some x ≡ Some y → x ≡ y
 some_injective e = cc

@@ -1,14 +1,15 @@
 -- How closed descriptors stand for chains. They are kept in the order in which they were closed, so a
 -- superclass stands before its subclasses: the chain of a descriptor is that of its parent and then its own
 -- layer.
-use Rattle.std.specs.Prelude.{ℕ, ◌≡◌, ◌+◌, ◌-◌, ◌^◌, ◌<◌, ◌≤◌, List, [], ◌∷◌, ◌++◌, length, take, fold, count_by, slice_index_or, if◌then◌else◌, IsTrue, Option, Some, None}
+use Rattle.std.specs.Prelude.{ℕ, ◌≡◌, ◌+◌, ◌-◌, ◌^◌, ◌<◌, ◌≤◌, ◌&&◌, List, [], ◌∷◌, ◌++◌, length, take, fold, count_by, slice_index_or, if◌then◌else◌, IsTrue, Option, Some, None}
 use Rattle.jser_table.specs.declared.layer.Layer.{Layer}
 use Rattle.jser_table.specs.declared.descriptor.Links.{Links}
 use Rattle.jser_table.specs.declared.descriptor.Descriptor.{Descriptor}
+use Rattle.jser_table.specs.declared.descriptor.Above.{Above}
 use Rattle.jser_table.specs.declared.descriptor.Counted.{Counted}
 use Rattle.jser_table.specs.declared.descriptor.Counted.TheVariants as counted
 use Rattle.jser_table.specs.Codes.{AreLeading}
-use Rattle.jser_table.specs.Chains.{own_layer, chain_in, all_serial, is_filled, IsFront}
+use Rattle.jser_table.specs.Chains.{own_layer, chain_in, all_serial, is_serial, is_filled, IsFront}
 use Rattle.jser_table.specs.Sections.{HasSection, sections_of, down_to, layer_of, filled_layers, HoldsFor}
 use Rattle.jser_table.specs.declared.descriptor.Filed.{Filed}
 use Rattle.jser_table.specs.Lined.{AreLined}
@@ -57,10 +58,6 @@ pub record Knows (chain : List Layer) (d : Descriptor) : Type 0 where
   pub layers : d.layers ≡ length chain
   pub filled : d.filled ≡ count_by is_filled chain
   pub serial : d.is_serial ≡ all_serial chain
-
--- what the descriptor of a class knows by that of its parent and its own layer
-abbrev pub KnowsBelow : Descriptor → Layer → Descriptor → Type 0
-KnowsBelow parent layer d = (chain : List Layer) → Knows chain parent → Knows (chain ++ layer ∷ []) d
 
 -- the number of the lowest section of a chain, if it has one
 abbrev pub IsLast : List (List Layer) → (chain : List Layer) → Option ℕ → Type 0
@@ -120,6 +117,27 @@ LinkUnder chains None None = Unit {0}
 LinkUnder chains None (Some links) = ⊥
 LinkUnder chains (Some parent) None = ⊥
 LinkUnder chains (Some parent) (Some links) = LinksTo chains parent links
+
+-- what is known of the superclasses of a class under this parent, if it has one
+pub record IsAbove (chains : List (List Layer)) (parent : Option ℕ) (above : Above) : Type 0 where
+  pub layers : above.layers ≡ length (chain_of_parent chains parent)
+  pub filled : above.filled ≡ count_by is_filled (chain_of_parent chains parent)
+  pub serial : above.is_serial ≡ all_serial (chain_of_parent chains parent)
+  pub within : above.layers ≤ length chains
+  pub fewer : above.filled ≤ above.layers
+  pub links : LinkUnder chains parent above.links
+  pub last : IsLast chains (chain_of_parent chains parent) above.last
+
+-- the descriptor of this layer under these superclasses, whose chain has this lowest section
+abbrev pub descriptor_under : Above → Layer → (last : Option ℕ) → Descriptor
+descriptor_under above layer last = record {
+  layer = layer;
+  links = above.links;
+  layers = above.layers + 1;
+  filled = above.filled + (if is_filled layer then 1 else 0);
+  last = last;
+  is_serial = above.is_serial && is_serial layer;
+}
 
 -- a descriptor of this layer, made to stand under this parent
 pub record IsUnder (chains : List (List Layer)) (parent : Option ℕ) (layer : Layer) (d : Descriptor) : Type 0 where

@@ -13,10 +13,10 @@ ghost use Rattle.jser_table.specs.Lined.{AreLined, LinesUnder, lines_of};
 ghost use Rattle.jser_table.specs.Upwards.{IsAfter, LeadUp, RisesOver, filed_in, upward_below, upward_in, upward_under};
 ghost use Rattle.jser_table.specs.Paths.{Files, IsPathUnder};
 ghost use Rattle.jser_table.specs.Jumps.{JumpsFar, TakesJump};
-ghost use Rattle.jser_table.specs.Descriptors.{AreTold, IsHighest, GoesUp, LinksTo, IsUnder, IsTold, IsLast, IsLastUnder, AreShelved, IsFiled, chains_of, chain_of_parent, count_of, front_of};
+ghost use Rattle.jser_table.specs.Descriptors.{AreTold, IsHighest, GoesUp, IsAbove, IsTold, IsLast, IsLastUnder, AreShelved, IsFiled, chains_of, chain_of_parent, count_of, front_of};
 
-use crate::codes::{leading_of, leading_size, prim_size_in};
-use crate::descriptor::{Counted, Descriptor, Filed, Links, Upward};
+use crate::codes::{leading_size, prim_size_in};
+use crate::descriptor::{Above, Counted, Descriptor, Filed, Links, Upward};
 use crate::entry::MOST_CHAINS;
 use crate::kept::KeptLayer;
 use crate::layer::{Fit, Purpose};
@@ -91,14 +91,11 @@ impl Chains {
         ensures room { self.old.room ≤ self.new.room + 1 }
     {
         let number = self.descriptors.len() as u32;
-        let section = self.sections.len() as u32;
-        let above = last_of(&self.descriptors, parent);
-        file(&mut self.sections, &layer, number, above);
-        let descriptor = descriptor_under(&self.descriptors, parent, layer, section);
-        match self.descriptors.push(descriptor) {
-            Ok(()) => number,
-            Err(_) => unreachable!(),
-        }
+        let above = above_of(&self.descriptors, parent);
+        let last = file(&mut self.sections, &layer, number, above.last);
+        self.descriptors
+            .push_reserved(Descriptor::under(above, layer, last));
+        number
     }
 
     /// How many chains there are.
@@ -240,41 +237,47 @@ impl Chains {
     }
 }
 
-/// The lowest section of the parent's chain, if there is one.
+/// What is known of the superclasses of a class under this parent, if it has one.
 #[tactic(auto, using(crate::proofs::ChainLemmas::length_chains_of))]
-fn last_of(descriptors: &[Descriptor], parent: Option<u32>) -> Option<u32>
+fn above_of(descriptors: &[Descriptor], parent: Option<u32>) -> Above
     requires told { AreTold descriptors.now }
     requires parent_in { ForSome parent (λ number. number < length descriptors.now) }
-    ensures { IsLast (chains_of descriptors.now) (chain_of_parent (chains_of descriptors.now) parent) result }
+    ensures above { IsAbove (chains_of descriptors.now) parent result }
+    ensures lines { AreLined descriptors.now → LinesUnder (lines_of descriptors.now) parent result.links }
 {
-    match parent {
-        Some(parent) => descriptor_at(descriptors, parent as usize).last,
-        None => None,
+    let Some(parent) = parent else {
+        return Above::none();
+    };
+    let jump = jump_from(descriptors, parent);
+    let own = descriptor_at(descriptors, parent as usize);
+    Above {
+        links: Some(Links { parent, jump }),
+        layers: own.layers,
+        filled: own.filled,
+        last: own.last,
+        is_serial: own.is_serial,
     }
 }
 
-/// Adds the section of the layer of this class to the list, if it has one. `above` is the lowest section of the class's
-/// superclasses, if there is one. Takes no memory.
-fn file(sections: &mut Vec<Filed>, layer: &KeptLayer, class: u32, above: Option<u32>)
+/// Adds the section of the layer of this class to the list, if it has one, and gives the lowest section of its chain. `above`
+/// is that of its superclasses, if there is one. Takes no memory.
+fn file(sections: &mut Vec<Filed>, layer: &KeptLayer, class: u32, above: Option<u32>) -> Option<u32>
     requires room { vec_len sections.old < vec_capacity sections.old }
     requires fewer { vec_len sections.old < 2 ^ 32 - 3 }
     requires above_in { ForSome above (λ number. number < length sections.old.items) }
     requires upwards { LeadUp sections.old.items }
     ensures filed { Files layer.now class above sections.old.items sections.new.items }
+    ensures last { IsLastUnder layer.now (length sections.old.items) above result }
     ensures room { vec_capacity sections.old - vec_len sections.old ≤ vec_capacity sections.new - vec_len sections.new + 1 }
 {
     if !layer.is_filled() {
-        return;
+        return above;
     }
     let number = sections.len() as u32;
     let upward = upward_under(sections, above);
     let path = path_under(sections.as_mut_slice(), above);
-    let leading = leading_of(layer.codes());
-    let filed = Filed::new(layer.section(), leading, class, path, number, upward);
-    match sections.push(filed) {
-        Ok(()) => (),
-        Err(_) => unreachable!(),
-    }
+    sections.push_reserved(Filed::new(layer, class, path, number, upward));
+    Some(number)
 }
 
 /// Where a walk goes up from the next section, under the section `above`.
@@ -335,43 +338,6 @@ fn path_under(sections: &mut [Filed], above: Option<u32>) -> u32
     }
     end.below = next;
     end.path
-}
-
-/// The descriptor of a class under this parent, if it has one. `section` is the number of its section, if it
-/// has one.
-#[tactic(auto, using(crate::proofs::ChainLemmas::length_chains_of))]
-fn descriptor_under(
-    descriptors: &[Descriptor],
-    parent: Option<u32>,
-    layer: KeptLayer,
-    section: u32,
-) -> Descriptor
-    requires told { AreTold descriptors.now }
-    requires parent_in { ForSome parent (λ number. number < length descriptors.now) }
-    requires fewer { length descriptors.now < 2 ^ 32 - 1 }
-    requires section { section ≡ length (sections_of (chains_of descriptors.now)) }
-    ensures under { IsUnder (chains_of descriptors.now) parent layer result }
-    ensures lines { AreLined descriptors.now → LinesUnder (lines_of descriptors.now) parent result.links }
-{
-    let Some(parent) = parent else {
-        let last = last_under(&layer, section, None);
-        return Descriptor::root(layer, last);
-    };
-    let jump = jump_from(descriptors, parent);
-    let above = &descriptors[parent as usize];
-    let last = last_under(&layer, section, above.last);
-    Descriptor::below(above, Links { parent, jump }, layer, last)
-}
-
-/// The lowest section of a chain: the layer's own, if it has one, and else the one above.
-fn last_under(layer: &KeptLayer, section: u32, above: Option<u32>) -> Option<u32>
-    ensures { IsLastUnder layer.now section above result }
-{
-    if layer.is_filled() {
-        Some(section)
-    } else {
-        above
-    }
 }
 
 /// Where a class under this parent jumps to: beyond the parent's two last jumps where these are as long as
@@ -543,15 +509,15 @@ fn section_over(
     ensures up { IfSome result (RisesOver (chains_of descriptors.now) before place) }
     ensures here { IfNone result (length (down_to (chains_of descriptors.now) place) ≡ before + 1) }
 {
-    let Upward { above, jump, count } = filed_at(descriptors, sections, place).upward;
-    if count - 1 <= before {
+    let own = filed_at(descriptors, sections, place);
+    if own.upward.count - 1 <= before {
         return None;
     }
+    let jump = own.upward.jump;
     if filed_at(descriptors, sections, jump).upward.count > before {
-        Some(jump)
-    } else {
-        Some(above)
+        return Some(jump);
     }
+    Some(own.upward.above)
 }
 
 /// The layer at this index of the chain at `start`.

@@ -1,9 +1,12 @@
 //! A closed descriptor: its own layer, its links to superclasses, and what is known of its whole chain.
-ghost use Rattle.std.specs.Prelude.{◌≡◌, ◌<◌, ◌≤◌, ◌^◌, ◌-◌, [], ◌∷◌, Some, None};
-ghost use Rattle.jser_table.specs.Descriptors.{told_count, Knows, KnowsBelow};
+ghost use Rattle.std.specs.Prelude.{◌≡◌, ◌<◌, ◌≤◌, ◌^◌, ◌-◌, None, true};
+ghost use Rattle.jser_table.specs.Codes.{AreLeading};
+ghost use Rattle.jser_table.specs.Sections.{HoldsFor};
+ghost use Rattle.jser_table.specs.Descriptors.{descriptor_under, told_count};
 ghost use Rattle.jser_table.specs.Paths.{section_in};
 ghost use Rattle.jser_table.specs.Upwards.{at_top};
 
+use crate::codes::{counts_of, leading_of};
 use crate::kept::KeptLayer;
 use crate::section::Section;
 
@@ -56,6 +59,31 @@ impl Upward {
     }
 }
 
+/// What is known of the superclasses of a class that is to be closed.
+#[derive(Clone, Copy)]
+pub(crate) struct Above {
+    pub(crate) links: Option<Links>,
+    pub(crate) layers: u32,
+    pub(crate) filled: u32,
+    pub(crate) last: Option<u32>,
+    pub(crate) is_serial: bool,
+}
+
+impl Above {
+    /// There are none.
+    pub(crate) fn none() -> Above
+        ensures { result ≡ record { links = None; layers = 0; filled = 0; last = None; is_serial = true } }
+    {
+        Above {
+            links: None,
+            layers: 0,
+            filled: 0,
+            last: None,
+            is_serial: true,
+        }
+    }
+}
+
 /// A section in the list of sections. It lies flat, so it takes 36 bytes.
 ///
 /// The section of the class that was closed first under another one goes on with that one's path; any other begins a path.
@@ -79,28 +107,29 @@ pub(crate) struct Filed {
 const _: () = prove!(size_of::<Filed>() == 36);
 
 impl Filed {
-    /// The section of this class, with this number: the last of its path as yet.
+    /// The section of this layer, which is that of this class, with this number: the last of its path as yet.
     pub(crate) fn new(
-        section: Section,
-        leading: u16,
+        layer: &KeptLayer,
         class: u32,
         path: u32,
         number: u32,
         upward: Upward,
     ) -> Filed
-        ensures section { section_in result ≡ section }
-        ensures leading { result.leading ≡ leading }
+        ensures section { HoldsFor layer.now (section_in result) }
+        ensures leading { AreLeading layer.now.codes result.leading }
         ensures class { result.class ≡ class }
         ensures path { result.path ≡ path }
         ensures below { result.below ≡ number }
         ensures upward { result.upward ≡ upward }
     {
+        let codes = layer.codes();
+        let counts = counts_of(codes);
         Filed {
-            raw_bytes: section.raw_bytes,
-            prims: section.prims,
-            values: section.values,
-            is_annotated: section.is_annotated,
-            leading,
+            raw_bytes: counts.raw_bytes,
+            prims: counts.prims,
+            values: counts.values,
+            is_annotated: layer.has_write_method(),
+            leading: leading_of(codes),
             class,
             path,
             below: number,
@@ -129,45 +158,18 @@ pub(crate) enum Counted {
 }
 
 impl Descriptor {
-    /// A class with no superclass.
-    #[tactic(auto, using(crate::proofs::ChainLemmas::knows_root))]
-    pub(crate) fn root(layer: KeptLayer, last: Option<u32>) -> Descriptor
-        ensures layer { result.layer ≡ layer }
-        ensures last { result.last ≡ last }
-        ensures links { result.links ≡ None }
-        ensures known { Knows (layer ∷ []) result }
+    /// The descriptor of a class with this layer under these superclasses. `last` is the lowest section of its chain.
+    pub(crate) fn under(above: Above, layer: KeptLayer, last: Option<u32>) -> Descriptor
+        requires layers { above.layers < 2 ^ 32 - 1 }
+        requires filled { above.filled ≤ above.layers }
+        ensures { result ≡ descriptor_under above layer last }
     {
         Descriptor {
-            links: None,
-            layers: 1,
-            filled: u32::from(layer.is_filled()),
+            links: above.links,
+            layers: above.layers + 1,
+            filled: above.filled + u32::from(layer.is_filled()),
             last,
-            is_serial: layer.is_serial(),
-            layer,
-        }
-    }
-
-    /// A class with this superclass.
-    #[tactic(auto, using(crate::proofs::ChainLemmas::knows_below))]
-    pub(crate) fn below(
-        parent: &Descriptor,
-        links: Links,
-        layer: KeptLayer,
-        last: Option<u32>,
-    ) -> Descriptor
-        requires fewer { parent.now.layers < 2 ^ 32 - 1 }
-        requires filled { parent.now.filled ≤ parent.now.layers }
-        ensures layer { result.layer ≡ layer }
-        ensures last { result.last ≡ last }
-        ensures links { result.links ≡ Some links }
-        ensures known { KnowsBelow parent.now layer result }
-    {
-        Descriptor {
-            links: Some(links),
-            layers: parent.layers + 1,
-            filled: parent.filled + u32::from(layer.is_filled()),
-            last,
-            is_serial: parent.is_serial && layer.is_serial(),
+            is_serial: above.is_serial && layer.is_serial(),
             layer,
         }
     }

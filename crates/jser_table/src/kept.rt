@@ -3,13 +3,11 @@
 ghost use Rattle.std.specs.Prelude.{◌≡◌, ◌<◌, ◌^◌, [], length, option_map, IfSome, vec_len};
 ghost use Rattle.jser_table.specs.Chains.{has_write_method, is_serializable, is_externalizable, has_block_data, is_enum, is_filled, is_serial, is_array_kind, elements_of_kind};
 ghost use Rattle.jser_table.specs.Codes.{size_of};
-ghost use Rattle.jser_table.specs.Sections.{HoldsFor};
 ghost use Rattle.jser_table.specs.Fits.{class_fit, object_fit};
 
-use crate::codes::{Codes, counts_of, size_of_code};
+use crate::codes::{Codes, size_of_code};
 use crate::flags::{has_block_data, has_write_method, is_enum, is_externalizable, is_serializable};
 use crate::layer::{BodyKind, Fit, Layer, LayerKind, Purpose};
-use crate::section::Section;
 use std::alloc::Global;
 use std::fmt;
 use std::marker::Model;
@@ -212,19 +210,6 @@ impl KeptLayer {
         ensures { result ≡ is_filled self.now }
     {
         !self.codes().is_empty() || self.has_write_method()
-    }
-
-    /// What an object's data holds for this class.
-    pub(crate) fn section(&self) -> Section
-        ensures { HoldsFor self.now result }
-    {
-        let counts = counts_of(self.codes());
-        Section {
-            raw_bytes: counts.raw_bytes,
-            prims: counts.prims,
-            values: counts.values,
-            is_annotated: self.has_write_method(),
-        }
     }
 
     /// Whether the class is a proxy or has the flag `SC_SERIALIZABLE`.

@@ -1,6 +1,4 @@
-use Rattle.std.proofs.Common.{◌≡◌, ◌∙◌, ap, arith}
-use Rattle.jser_table.specs.declared.descriptor.Filed.{Filed}
-use Rattle.jser_table.specs.declared.descriptor.Upward.{Upward}
+use Rattle.std.proofs.Common.{arith}
 use Rattle.jser_table.specs.Upwards.{no_filed}
 use Rattle.jser_table.proofs.FiledLemmas.{filed_at_place, none_after}
 use Rattle.jser_table.proofs.UpwardLemmas.{next_by_count}
