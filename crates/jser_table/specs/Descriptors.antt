@@ -128,15 +128,26 @@ pub record IsAbove (chains : List (List Layer)) (parent : Option ℕ) (above : A
   pub links : LinkUnder chains parent above.links
   pub last : IsLast chains (chain_of_parent chains parent) above.last
 
--- the descriptor of this layer under these superclasses, whose chain has this lowest section
-abbrev pub descriptor_under : Above → Layer → (last : Option ℕ) → Descriptor
-descriptor_under above layer last = record {
+-- a descriptor of this layer under these superclasses, which knows nothing of the layer as yet but that it is there
+abbrev pub descriptor_begun : Above → Layer → Descriptor
+descriptor_begun above layer = record {
   layer = layer;
   links = above.links;
   layers = above.layers + 1;
-  filled = above.filled + (if is_filled layer then 1 else 0);
+  filled = above.filled;
+  last = above.last;
+  is_serial = above.is_serial;
+}
+
+-- that descriptor with all that its layer adds, where the chain has this lowest section
+abbrev pub descriptor_whole : Descriptor → (last : Option ℕ) → Descriptor
+descriptor_whole d last = record {
+  layer = d.layer;
+  links = d.links;
+  layers = d.layers;
+  filled = d.filled + (if is_filled d.layer then 1 else 0);
   last = last;
-  is_serial = above.is_serial && is_serial layer;
+  is_serial = d.is_serial && is_serial d.layer;
 }
 
 -- a descriptor of this layer, made to stand under this parent

@@ -92,9 +92,11 @@ impl Chains {
     {
         let number = self.descriptors.len() as u32;
         let above = above_of(&self.descriptors, parent);
-        let last = file(&mut self.sections, &layer, number, above.last);
         self.descriptors
-            .push_reserved(Descriptor::under(above, layer, last));
+            .push_reserved(Descriptor::begun(above, layer));
+        let own = &mut self.descriptors[number as usize];
+        let last = file(&mut self.sections, &own.layer, number, above.last);
+        own.complete(last);
         number
     }
 

@@ -2,7 +2,7 @@
 ghost use Rattle.std.specs.Prelude.{◌≡◌, ◌<◌, ◌≤◌, ◌^◌, ◌-◌, None, true};
 ghost use Rattle.jser_table.specs.Codes.{AreLeading};
 ghost use Rattle.jser_table.specs.Sections.{HoldsFor};
-ghost use Rattle.jser_table.specs.Descriptors.{descriptor_under, told_count};
+ghost use Rattle.jser_table.specs.Descriptors.{descriptor_begun, descriptor_whole, told_count};
 ghost use Rattle.jser_table.specs.Paths.{section_in};
 ghost use Rattle.jser_table.specs.Upwards.{at_top};
 
@@ -158,20 +158,30 @@ pub(crate) enum Counted {
 }
 
 impl Descriptor {
-    /// The descriptor of a class with this layer under these superclasses. `last` is the lowest section of its chain.
-    pub(crate) fn under(above: Above, layer: KeptLayer, last: Option<u32>) -> Descriptor
-        requires layers { above.layers < 2 ^ 32 - 1 }
-        requires filled { above.filled ≤ above.layers }
-        ensures { result ≡ descriptor_under above layer last }
+    /// A class with this layer under these superclasses: what it knows of its chain leaves the layer out as yet, but for how
+    /// many there are. The layer is looked at where it lies then, which takes less than to do so on the way.
+    pub(crate) fn begun(above: Above, layer: KeptLayer) -> Descriptor
+        requires { above.layers < 2 ^ 32 - 1 }
+        ensures { result ≡ descriptor_begun above layer }
     {
         Descriptor {
+            layer,
             links: above.links,
             layers: above.layers + 1,
-            filled: above.filled + u32::from(layer.is_filled()),
-            last,
-            is_serial: above.is_serial && layer.is_serial(),
-            layer,
+            filled: above.filled,
+            last: above.last,
+            is_serial: above.is_serial,
         }
+    }
+
+    /// Takes its own layer into what it knows. `last` is the lowest section of its chain.
+    pub(crate) fn complete(&mut self, last: Option<u32>)
+        requires { self.old.filled < 2 ^ 32 - 1 }
+        ensures { self.new ≡ descriptor_whole self.old last }
+    {
+        self.filled += u32::from(self.layer.is_filled());
+        self.last = last;
+        self.is_serial = self.is_serial && self.layer.is_serial();
     }
 
     /// How many layers of the chain count.
