@@ -1,6 +1,6 @@
 -- Chains of closed descriptors: one more descriptor, fronts of chains, and what the links of a descriptor
 -- lead to.
-use Rattle.std.proofs.Common.{set, get_or, ◌≡◌, ℕ, ◌+◌, ◌<◌, ◌≤◌, Bool, true, ◌&&◌, cond, List, [], ◌∷◌, ◌++◌, length, fold, Option, Some, None, option_map, refl, ap, sym, ◌∙◌, subst, arith, inl, inr}
+use Rattle.std.proofs.Common.{set, get_or, ◌≡◌, ℕ, ◌+◌, ◌<◌, ◌≤◌, Bool, true, ◌&&◌, cond, List, [], ◌∷◌, ◌++◌, length, fold, Option, Some, None, option_map, refl, ap, sym, ◌∙◌, subst, arith, inl, inr, if◌then◌else◌}
 use Rattle.std.proofs.lemmas.Bool.{cases_lt}
 use Rattle.std.proofs.lemmas.List.{get_or_append_left, get_or_push, length_push}
 use Rattle.std.proofs.Math.Seq.{set-append_seam}
@@ -141,8 +141,8 @@ above_parent ds parent number jump own is inside told jump_in front = rw is reco
   last = told.last;
 }
 
-under_above : (chains : List (List Layer)) (parent : Option ℕ) (layer : Layer) (section : ℕ) (above : Above) (last : Option ℕ) (d : Descriptor) → IsAbove chains parent above → section ≡ length (sections_of chains) → IsLastUnder layer section above.last last → d ≡ descriptor_whole (descriptor_begun above layer) last → IsUnder chains parent layer d
-under_above chains parent layer section above last d is here last_is made =
+under_above : (chains : List (List Layer)) (parent : Option ℕ) (layer : Layer) (section : ℕ) (above : Above) (d : Descriptor) → IsAbove chains parent above → section ≡ length (sections_of chains) → d ≡ descriptor_whole (descriptor_begun above layer) section → IsUnder chains parent layer d
+under_above chains parent layer section above d is here made =
     let chain : List Layer = chain_of_parent chains parent in
     rw made record {
       layer_is = refl;
@@ -153,7 +153,7 @@ under_above chains parent layer section above last d is here last_is made =
         serial = ap (λ b. b && is_serial layer) is.serial ∙ sym (all_serial_push chain layer);
       };
       within = omega (arith, is.within);
-      last = last_under chains chain layer section above.last last here is.last last_is;
+      last = last_under chains chain layer section above.last (if is_filled layer then Some section else above.last) here is.last refl;
     }
 
 -- A descriptor that is begun, put at the end of the list, and made whole there, is the next one.
@@ -163,16 +163,16 @@ pub record Completes (old new : List Descriptor) (number : ℕ) (parent : Option
   pub links : whole.links ≡ above.links
   pub under : IsUnder (chains_of old) parent layer whole
 
-pub completes : (old new : List Descriptor) (number : ℕ) (parent : Option ℕ) (above : Above) (layer : Layer) (section : ℕ) (begun own whole : Descriptor) (last : Option ℕ) → IsAbove (chains_of old) parent above → section ≡ length (sections_of (chains_of old)) → IsLastUnder own.layer section above.last last → begun ≡ descriptor_begun above layer → new ≡ old ++ begun ∷ [] → number ≡ length old → own ≡ get_or new number own → whole ≡ descriptor_whole own last → Completes old new number parent above layer own whole
-completes old new number parent above layer section begun own whole last is section_is last_is made pushed here read completed =
+pub completes : (old new : List Descriptor) (number : ℕ) (parent : Option ℕ) (above : Above) (layer : Layer) (section : ℕ) (begun own whole : Descriptor) → IsAbove (chains_of old) parent above → section ≡ length (sections_of (chains_of old)) → begun ≡ descriptor_begun above layer → new ≡ old ++ begun ∷ [] → number ≡ length old → own ≡ get_or new number own → whole ≡ descriptor_whole own section → Completes old new number parent above layer own whole
+completes old new number parent above layer section begun own whole is section_is made pushed here read completed =
     let own_is : own ≡ descriptor_begun above layer = read ∙ ap (λ items. get_or items number own) pushed ∙ get_or_push old begun own number (sym here) ∙ made in
-    let whole_is : whole ≡ descriptor_whole (descriptor_begun above layer) last = completed ∙ ap (λ d. descriptor_whole d last) own_is in
+    let whole_is : whole ≡ descriptor_whole (descriptor_begun above layer) section = completed ∙ ap (λ d. descriptor_whole d section) own_is in
     let layer_is : own.layer ≡ layer = ap (λ (d : Descriptor). d.layer) own_is in
     record {
       items = rw (pushed, here) (set-append_seam old begun [] whole);
       layer_is = layer_is;
       links = ap (λ (d : Descriptor). d.links) whole_is;
-      under = under_above (chains_of old) parent layer section above last whole is section_is (subst (λ l. IsLastUnder l section above.last last) layer_is last_is) whole_is;
+      under = under_above (chains_of old) parent layer section above whole is section_is whole_is;
     }
 
 -- whether a class fits, by what its descriptor tells

@@ -1,6 +1,6 @@
 -- The list of sections beside that of closed descriptors: one more class, and what a section and the walks up a
 -- chain tell of the sections of an object.
-use Rattle.std.proofs.Common.{◌≡◌, ℕ, ◌+◌, ◌-◌, ◌<◌, ◌≤◌, ◌^◌, Bool, true, false, IsTrue, List, [], ◌∷◌, ◌++◌, length, drop, set, get_or, count_by, Option, Some, refl, ap, sym, ◌∙◌, arith, append_assoc, inl, inr}
+use Rattle.std.proofs.Common.{◌≡◌, ℕ, ◌+◌, ◌-◌, ◌<◌, ◌≤◌, ◌^◌, Bool, true, false, IsTrue, List, [], ◌∷◌, ◌++◌, length, drop, set, get_or, count_by, Option, Some, refl, ap, sym, ◌∙◌, subst, arith, append_assoc, inl, inr}
 use Rattle.std.proofs.lemmas.Bool.{cases_lt, cases_eq, false≢true}
 use Rattle.std.proofs.lemmas.List.{get_or_default, get_or_append_left, get_or_push, get_or-set_same, get_or-set_other, length-set, length_push, drop_at, drop_all}
 use Rattle.jser_table.specs.declared.layer.Layer.{Layer}
@@ -11,7 +11,7 @@ use Rattle.jser_table.specs.Chains.{own_layer, is_filled, chain_in, IsFront}
 use Rattle.jser_table.specs.Sections.{filled_layers, sections_of, HasSection, down_to, or_no_layer, layer_of, under, IsOn, HoldsFor, IsNext, AreSections}
 use Rattle.jser_table.specs.Descriptors.{chain_above, chain_of_parent, chains_of, IsTold, IsUnder, IsLast, IsFiled, AreFiled, AreShelved}
 use Rattle.jser_table.specs.Upwards.{no_filed, filed_in, IsUpward, IsAfter}
-use Rattle.jser_table.specs.Paths.{section_in, path_of, below_of, leading_to, LeadsOn, ArePaths, IsPathUnder, FilesIf, Files}
+use Rattle.jser_table.specs.Paths.{section_in, path_of, below_of, leading_to, LeadsOn, ArePaths, IsPathUnder, FilesOne, FilesIf, Files}
 use Rattle.jser_table.proofs.LayerLemmas.{IsFront-refl, own_layer_push}
 use Rattle.jser_table.proofs.SectionLemmas.{sections_none, sections_push, sections_same, length_filled, down_to_grows, layer_of_grows, new_down_to, new_layer_of}
 use Rattle.jser_table.proofs.UpwardLemmas.{upward_grows, upward_new}
@@ -148,6 +148,14 @@ shelved_push old new d parent layer last sections filed are few is under at_last
       (paths_if (is_filled layer) (chains_of old) (chain_of_parent (chains_of old) parent) layer (length old) last sections filed refl are.filed.count at_last are.paths files);
   fewer = omega (arith, few, ap length is, length_push old d);
 }
+
+-- a class files its section, or none
+pub files_one : (layer own whole : Layer) (class : ℕ) (above : Option ℕ) (old new : List Filed) → true ≡ is_filled own → own ≡ layer → whole ≡ layer → FilesOne whole class above old new → Files layer class above old new
+files_one layer own whole class above old new filled same whole_same files =
+    subst (λ b. FilesIf b layer class above old new) (filled ∙ ap is_filled same) (subst (λ l. FilesOne l class above old new) whole_same files)
+
+pub files_none : (layer own : Layer) (class : ℕ) (above : Option ℕ) (old : List Filed) → false ≡ is_filled own → own ≡ layer → Files layer class above old old
+files_none layer own class above old empty same = subst (λ b. FilesIf b layer class above old old) (empty ∙ ap is_filled same) refl
 
 -- the section at a place of the list
 pub filed_at_place : (ds : List Descriptor) (sections : List Filed) (number : ℕ) (other : Filed) → AreShelved ds sections → HasSection (chains_of ds) number → IsFiled (chains_of ds) number (get_or sections number other)

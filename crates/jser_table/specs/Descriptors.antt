@@ -139,14 +139,14 @@ descriptor_begun above layer = record {
   is_serial = above.is_serial;
 }
 
--- that descriptor with all that its layer adds, where the chain has this lowest section
-abbrev pub descriptor_whole : Descriptor → (last : Option ℕ) → Descriptor
-descriptor_whole d last = record {
+-- that descriptor with all that its layer adds, where this is the number of the layer's section, if it has one
+abbrev pub descriptor_whole : Descriptor → (section : ℕ) → Descriptor
+descriptor_whole d section = record {
   layer = d.layer;
   links = d.links;
   layers = d.layers;
   filled = d.filled + (if is_filled d.layer then 1 else 0);
-  last = last;
+  last = if is_filled d.layer then Some section else d.last;
   is_serial = d.is_serial && is_serial d.layer;
 }
 

@@ -11,7 +11,7 @@ ghost use Rattle.jser_table.specs.Fits.{fit_of};
 ghost use Rattle.jser_table.specs.Lines.{line_in, next_line, LeadsTo};
 ghost use Rattle.jser_table.specs.Lined.{AreLined, LinesUnder, lines_of};
 ghost use Rattle.jser_table.specs.Upwards.{IsAfter, LeadUp, RisesOver, filed_in, upward_below, upward_in, upward_under};
-ghost use Rattle.jser_table.specs.Paths.{Files, IsPathUnder};
+ghost use Rattle.jser_table.specs.Paths.{FilesOne, IsPathUnder};
 ghost use Rattle.jser_table.specs.Jumps.{JumpsFar, TakesJump};
 ghost use Rattle.jser_table.specs.Descriptors.{AreTold, IsHighest, GoesUp, IsAbove, IsTold, IsLast, IsLastUnder, AreShelved, IsFiled, chains_of, chain_of_parent, count_of, front_of};
 
@@ -90,14 +90,16 @@ impl Chains {
         ensures most { result < 2 ^ 32 - 3 }
         ensures room { self.old.room ≤ self.new.room + 1 }
     {
-        let number = self.descriptors.len() as u32;
+        let place = self.descriptors.len();
         let above = above_of(&self.descriptors, parent);
         self.descriptors
             .push_reserved(Descriptor::begun(above, layer));
-        let own = &mut self.descriptors[number as usize];
-        let last = file(&mut self.sections, &own.layer, number, above.last);
-        own.complete(last);
-        number
+        let own = &mut self.descriptors[place];
+        let section = self.sections.len() as u32;
+        if own.complete(section) {
+            file(&mut self.sections, &own.layer, place as u32, above.last);
+        }
+        place as u32
     }
 
     /// How many chains there are.
@@ -261,25 +263,20 @@ fn above_of(descriptors: &[Descriptor], parent: Option<u32>) -> Above
     }
 }
 
-/// Adds the section of the layer of this class to the list, if it has one, and gives the lowest section of its chain. `above`
-/// is that of its superclasses, if there is one. Takes no memory.
-fn file(sections: &mut Vec<Filed>, layer: &KeptLayer, class: u32, above: Option<u32>) -> Option<u32>
+/// Adds the section of the layer of this class to the list. `above` is the lowest section of the class's superclasses, if there
+/// is one. Takes no memory.
+fn file(sections: &mut Vec<Filed>, layer: &KeptLayer, class: u32, above: Option<u32>)
     requires room { vec_len sections.old < vec_capacity sections.old }
     requires fewer { vec_len sections.old < 2 ^ 32 - 3 }
     requires above_in { ForSome above (λ number. number < length sections.old.items) }
     requires upwards { LeadUp sections.old.items }
-    ensures filed { Files layer.now class above sections.old.items sections.new.items }
-    ensures last { IsLastUnder layer.now (length sections.old.items) above result }
+    ensures filed { FilesOne layer.now class above sections.old.items sections.new.items }
     ensures room { vec_capacity sections.old - vec_len sections.old ≤ vec_capacity sections.new - vec_len sections.new + 1 }
 {
-    if !layer.is_filled() {
-        return above;
-    }
     let number = sections.len() as u32;
     let upward = upward_under(sections, above);
     let path = path_under(sections.as_mut_slice(), above);
     sections.push_reserved(Filed::new(layer, class, path, number, upward));
-    Some(number)
 }
 
 /// Where a walk goes up from the next section, under the section `above`.

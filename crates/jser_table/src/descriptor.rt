@@ -1,5 +1,6 @@
 //! A closed descriptor: its own layer, its links to superclasses, and what is known of its whole chain.
 ghost use Rattle.std.specs.Prelude.{◌≡◌, ◌<◌, ◌≤◌, ◌^◌, ◌-◌, None, true};
+ghost use Rattle.jser_table.specs.Chains.{is_filled};
 ghost use Rattle.jser_table.specs.Codes.{AreLeading};
 ghost use Rattle.jser_table.specs.Sections.{HoldsFor};
 ghost use Rattle.jser_table.specs.Descriptors.{descriptor_begun, descriptor_whole, told_count};
@@ -174,14 +175,19 @@ impl Descriptor {
         }
     }
 
-    /// Takes its own layer into what it knows. `last` is the lowest section of its chain.
-    pub(crate) fn complete(&mut self, last: Option<u32>)
+    /// Takes its own layer into what it knows, and tells whether that has a section, which is the one with this number then.
+    pub(crate) fn complete(&mut self, section: u32) -> bool
         requires { self.old.filled < 2 ^ 32 - 1 }
-        ensures { self.new ≡ descriptor_whole self.old last }
+        ensures whole { self.new ≡ descriptor_whole self.old section }
+        ensures filled { result ≡ is_filled self.old.layer }
     {
-        self.filled += u32::from(self.layer.is_filled());
-        self.last = last;
         self.is_serial = self.is_serial && self.layer.is_serial();
+        let is_filled = self.layer.is_filled();
+        if is_filled {
+            self.filled += 1;
+            self.last = Some(section);
+        }
+        is_filled
     }
 
     /// How many layers of the chain count.
