@@ -1,6 +1,6 @@
 -- Chains of closed descriptors: one more descriptor, fronts of chains, and what the links of a descriptor
 -- lead to.
-use Rattle.std.proofs.Common.{set, get_or, ◌≡◌, ℕ, ◌+◌, ◌<◌, ◌≤◌, Bool, true, ◌&&◌, cond, List, [], ◌∷◌, ◌++◌, length, fold, Option, Some, None, option_map, refl, ap, sym, ◌∙◌, subst, arith, inl, inr, if◌then◌else◌}
+use Rattle.std.proofs.Common.{set, get_or, ◌≡◌, ℕ, ◌+◌, ◌<◌, ◌≤◌, Bool, ◌&&◌, cond, List, [], ◌∷◌, ◌++◌, length, fold, Option, Some, None, option_map, refl, ap, sym, ◌∙◌, subst, arith, inl, inr, if◌then◌else◌}
 use Rattle.std.proofs.lemmas.Bool.{cases_lt}
 use Rattle.std.proofs.lemmas.List.{get_or_append_left, get_or_push, length_push}
 use Rattle.std.proofs.Math.Seq.{set-append_seam}
@@ -17,7 +17,7 @@ use Rattle.jser_table.specs.Fits.{class_fit, fit_of_own, fit_of}
 use Rattle.jser_table.specs.Sections.{sections_of}
 use Rattle.jser_table.specs.Codes.{size_of}
 use Rattle.jser_table.specs.Chains.{is_externalizable, is_external_layer, is_external, elements_of_kind, elements_of_layer, elements_of, own_layer, is_serial, is_filled, chain_in, IsFront}
-use Rattle.jser_table.specs.Descriptors.{chain_above, with_chain, chains_of, AreLinks, IsTold, AreTold, LinkUnder, IsAbove, IsUnder, Knows, IsLast, IsLastUnder, chain_of_parent, descriptor_begun, descriptor_whole}
+use Rattle.jser_table.specs.Descriptors.{chain_above, with_chain, chains_of, AreLinks, IsTold, AreTold, LinkUnder, IsAbove, IsUnder, Knows, IsLast, chain_of_parent, descriptor_begun, descriptor_whole}
 
 chains_of-push : (ds : List Descriptor) (d : Descriptor) → chains_of (ds ++ d ∷ []) ≡ with_chain (chains_of ds) d
 unfolding chains_of
@@ -118,17 +118,6 @@ chains_push old new d parent layer is under =
     ap chains_of is ∙ chains_of-push old d ∙ rw (above_of_parent (chains_of old) parent d.links under.links, under.layer_is) refl
 
 -- the superclasses of a class, and its descriptor under them
-
-pub above_none : (ds : List Descriptor) (parent : Option ℕ) → parent ≡ None → IsAbove (chains_of ds) parent record { links = None; layers = 0; filled = 0; last = None; is_serial = true }
-above_none ds parent is = rw is record {
-  layers = refl;
-  filled = refl;
-  serial = refl;
-  within = omega arith;
-  fewer = omega arith;
-  links = tt;
-  last = refl;
-}
 
 pub above_parent : (ds : List Descriptor) (parent : Option ℕ) (number jump : ℕ) (own : Descriptor) → parent ≡ Some number → number < length ds → IsTold (chains_of ds) number own → jump < length ds → IsFront (chain_in (chains_of ds) jump) (chain_in (chains_of ds) number) → IsAbove (chains_of ds) parent record { links = Some record { parent = number; jump = jump }; layers = own.layers; filled = own.filled; last = own.last; is_serial = own.is_serial }
 above_parent ds parent number jump own is inside told jump_in front = rw is record {

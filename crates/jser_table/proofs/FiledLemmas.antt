@@ -172,10 +172,6 @@ pub has_layers : (ds : List Descriptor) (sections : List Filed) (number : ℕ) �
 unfolding layer_of
 has_layers ds sections number are has = not_empty (down_to (chains_of ds) number) (filed_at_place ds sections number no_filed are has).filled
 
--- a chain that has a lowest section has a filled layer
-pub has_filled : (ds : List Descriptor) (sections : List Filed) (whole : List Layer) (last : ℕ) → AreShelved ds sections → IsLast (chains_of ds) whole (Some last) → 0 < count_by is_filled whole
-has_filled ds sections whole last are at_last = omega (arith, has_layers ds sections last are at_last.0, ap length at_last.1, length_filled whole)
-
 -- the layer of a section is that of its class
 pub layer_of_class : (chains : List (List Layer)) (number place : ℕ) (filed : Filed) (d : Descriptor) → IsFiled chains number filed → filed.class ≡ place → IsTold chains place d → d.layer ≡ layer_of chains number
 layer_of_class chains number place filed d told is class =

@@ -1,5 +1,5 @@
 -- Where walks up from sections lead: one more section, and the end of a walk.
-use Rattle.std.proofs.Common.{◌≡◌, ℕ, ◌+◌, ◌-◌, ◌*◌, ◌<◌, ◌≤◌, ◌==◌, Bool, true, false, IsTrue, List, [], ◌∷◌, ◌++◌, length, drop, Option, Some, None, refl, ap, sym, ◌∙◌, arith, append_assoc, if◌then◌else◌}
+use Rattle.std.proofs.Common.{◌≡◌, ℕ, ◌+◌, ◌*◌, ◌<◌, ◌≤◌, ◌==◌, Bool, true, false, IsTrue, List, [], ◌∷◌, ◌++◌, length, drop, Option, Some, None, refl, ap, sym, ◌∙◌, arith, append_assoc, if◌then◌else◌}
 use Rattle.std.proofs.lemmas.List.{get_or_default, length_push, drop_at}
 use Rattle.jser_table.specs.declared.layer.Layer.{Layer}
 use Rattle.jser_table.specs.declared.descriptor.Upward.{Upward}
@@ -7,7 +7,7 @@ use Rattle.jser_table.specs.declared.descriptor.Filed.{Filed}
 use Rattle.jser_table.specs.Chains.{own_layer, is_filled, IsFront}
 use Rattle.jser_table.specs.Sections.{sections_of, HasSection, down_to, or_no_layer, layer_of, under, IsOn, IsNext}
 use Rattle.jser_table.specs.Descriptors.{AreFiled, IsLast}
-use Rattle.jser_table.specs.Upwards.{no_filed, filed_in, at_top, upward_in, upward_below, upward_under, IsUpward, LeadUp, RisesOver, IsAfter}
+use Rattle.jser_table.specs.Upwards.{no_filed, filed_in, at_top, upward_in, upward_below, upward_under, IsUpward, IsAfter}
 use Rattle.jser_table.proofs.LayerLemmas.{IsFront-refl, IsFront-from, IsFront-trans}
 use Rattle.jser_table.proofs.SectionLemmas.{down_to_grows, layer_of_grows, new_down_to, filled_push}
 use Rattle.jser_table.proofs.PathLemmas.{under_above}
@@ -31,9 +31,6 @@ upward_grows chains more number up has is = record {
 pub upward_kept : (chains : List (List Layer)) (sections : List Filed) (number : ℕ) → AreFiled chains sections → number < length sections → IsUpward chains number (upward_in sections number)
 upward_kept chains sections number are inside =
     (are.each number (filed_in sections number) inside (get_or_default sections number no_filed (filed_in sections number) inside)).upward
-
-pub lead_up : (chains : List (List Layer)) (sections : List Filed) → AreFiled chains sections → LeadUp sections
-lead_up chains sections are = λ number inside. let up = upward_kept chains sections number are inside in (up.jump_in, up.within)
 
 -- under no other section
 upward_top : (chains : List (List Layer)) (front : List Layer) (layer : Layer) (up : Upward) → is_filled layer ≡ true → IsLast chains front None → up ≡ at_top (length (sections_of chains)) → IsUpward (chains ++ (front ++ layer ∷ []) ∷ []) (length (sections_of chains)) up
@@ -101,25 +98,7 @@ pub upward_new : (chains : List (List Layer)) (front : List Layer) (layer : Laye
 upward_new chains front layer None sections up filled are at is = upward_top chains front layer up filled at (is ∙ ap at_top (sym are.count))
 upward_new chains front layer (Some a) sections up filled are at is = upward_under_one chains front layer sections a up filled are at is
 
--- ---- walks
-
--- by the jump
-pub rises_by_jump : (chains : List (List Layer)) (place before : ℕ) (up higher : Upward) → IsUpward chains place up → before < up.count - 1 → IsUpward chains up.jump higher → before < higher.count → RisesOver chains before place up.jump
-rises_by_jump chains place before up higher is more there over = record {
-  lower = is.back (omega (arith, more));
-  front = is.front;
-  over = omega (arith, over, there.count);
-}
-
--- to the section just above
-pub rises_by_one : (chains : List (List Layer)) (place before : ℕ) (up : Upward) → IsUpward chains place up → before < up.count - 1 → RisesOver chains before place up.above
-rises_by_one chains place before up is more =
-    let step = is.above (omega (arith, more)) in
-    record {
-      lower = is.above_in (omega (arith, more));
-      front = IsFront-from (down_to chains up.above) (layer_of chains place ∷ []) (down_to chains place) step;
-      over = omega (arith, more, is.count, ap length step, length_push (down_to chains up.above) (layer_of chains place));
-    }
+-- ---- the end of a walk
 
 -- layers end in the own one
 record EndIn (layers : List Layer) (layer : Layer) : Type 0 where

@@ -7,6 +7,7 @@ use Rattle.jser_table.specs.declared.descriptor.Filed.{Filed}
 use Rattle.jser_table.specs.Chains.{IsFront}
 use Rattle.jser_table.specs.Sections.{HasSection, down_to, layer_of}
 
+-- the section with this number has none above it
 abbrev pub at_top : (number : ℕ) → Upward
 at_top number = record { above = number; jump = number; count = 1 }
 
@@ -19,20 +20,20 @@ filed_in sections number = slice_index_or sections number no_filed
 abbrev pub upward_in : List Filed → ℕ → Upward
 upward_in sections number = (filed_in sections number).upward
 
--- Beyond the two last jumps of the section above, where these are as long as each other, and else to that section.
+-- A section jumps beyond the two last jumps of the section above it, where these are as long as each other, and else to that.
 abbrev pub jump_by : (above : ℕ) (near middle top : Upward) → ℕ
 jump_by above near middle top = if near.count + top.count == 2 * middle.count then middle.jump else above
 
 abbrev pub upward_by : (above : ℕ) (near middle top : Upward) → Upward
 upward_by above near middle top = record { above = above; jump = jump_by above near middle top; count = near.count + 1 }
 
--- where a walk goes from the next section under this one
+-- where a walk goes up from the next section, if it comes just under this one
 abbrev pub upward_below : List Filed → (above : ℕ) → Upward
 upward_below sections above =
     upward_by above (upward_in sections above) (upward_in sections (upward_in sections above).jump)
     (upward_in sections (upward_in sections (upward_in sections above).jump).jump)
 
--- and from the next section, where there may be none above
+-- where a walk goes up from the next section, which has this one just above it, or none
 abbrev pub upward_under : List Filed → Option ℕ → Upward
 upward_under sections None = at_top (length sections)
 upward_under sections (Some above) = upward_below sections above

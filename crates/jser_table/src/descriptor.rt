@@ -159,8 +159,8 @@ pub(crate) enum Counted {
 }
 
 impl Descriptor {
-    /// A class with this layer under these superclasses: what it knows of its chain leaves the layer out as yet, but for how
-    /// many there are. The layer is looked at where it lies then, which takes less than to do so on the way.
+    /// A class with this layer under these superclasses. Of its layer it knows only that it is one more, until `complete` looks
+    /// at the layer where it lies: to look at one that has still to be moved takes more steps.
     pub(crate) fn begun(above: Above, layer: KeptLayer) -> Descriptor
         requires { above.layers < 2 ^ 32 - 1 }
         ensures { result ≡ descriptor_begun above layer }

@@ -3,7 +3,7 @@
 //!
 //! Only a layer with fields or an annotation has a section. Sections are numbered in the order in which
 //! their classes were closed. Each keeps the number of the one that was closed first just under it, so the
-//! sections of most classes are found link by link, from the first down; the others by a walk up the chain.
+//! sections of most classes are found link by link, from the first down; the others by a walk up from the last.
 use std::marker::Model;
 
 /// The number of a section, counted from 0 in each epoch. Contracts see it as a number.

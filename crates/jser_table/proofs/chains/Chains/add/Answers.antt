@@ -1,6 +1,5 @@
-use Rattle.std.proofs.Common.{◌≡◌, ◌<◌, ◌^◌, ◌-◌, ◌∙◌, ℕ, List, length, arith, rules, ap, sym, subst}
+use Rattle.std.proofs.Common.{◌≡◌, ◌<◌, ◌^◌, ◌-◌, ◌∙◌, ℕ, length, arith, rules, ap, sym, subst}
 use Rattle.jser_table.specs.Stored.{ChainList}
-use Rattle.jser_table.specs.Sections.{sections_of}
 use Rattle.jser_table.specs.Descriptors.{IsAbove, chains_of}
 use Rattle.jser_table.specs.Paths.{FilesOne}
 use Rattle.jser_table.specs.Lined.{LinesUnder, lines_of}
