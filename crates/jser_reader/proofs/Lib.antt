@@ -72,3 +72,7 @@ pub mod ManyNotes
 pub mod ManyArrays
 pub mod ManyPasses
 pub mod GoalPlaces
+pub mod TextTokens
+pub mod VisitLemmas
+pub mod FurtherLemmas
+pub mod FeedLemmas

@@ -42,3 +42,5 @@ pub mod RawRuns
 pub mod RawsTold
 pub mod Places
 pub mod MachinePlaces
+pub mod Visits
+pub mod Feeds

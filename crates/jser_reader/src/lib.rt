@@ -17,9 +17,11 @@ mod refusal;
 mod stack;
 mod tag;
 mod tally;
+mod visit;
 
 pub use gate::{Answer, Gate, Limits, OpenGate};
 pub use item::{Item, Step, Totals, Whole};
 pub use place::Place;
 pub use reader::Reader;
 pub use refusal::{Reason, Refusal, Stop};
+pub use visit::{FeedFault, Visit};

@@ -10,6 +10,8 @@ ghost use Rattle.jser_reader.specs.Places.{PlaceTold};
 ghost use Rattle.jser_reader.specs.RawsTold.{RawsCases};
 ghost use Rattle.jser_reader.specs.WholesTold.{WholeCases};
 
+mod feed;
+
 use crate::gate::Gate;
 use crate::item::{Step, Totals, Whole};
 use crate::machine::Machine;
