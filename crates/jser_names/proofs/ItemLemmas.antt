@@ -1,11 +1,10 @@
 -- One item further along a stream in pieces, with the names collected.
-use Rattle.std.proofs.Common.{◌≡◌, ℕ, zero, suc, ◌-◌, ◌<◌, max, Bool, true, false, List, [], ◌∷◌, ◌++◌, length, refl, sym, ◌∙◌, ap, subst, arith, append_assoc, append-nil}
+use Rattle.std.proofs.Common.{◌≡◌, ℕ, zero, suc, ◌-◌, ◌<◌, max, Bool, true, false, List, [], ◌∷◌, ◌++◌, length, refl, sym, ◌∙◌, ap, subst, arith}
 use Rattle.jser_prim.specs.Bytes.{big_bytes}
 use Rattle.jser_prim.specs.ModifiedUtf8.{modified_utf8}
-use Rattle.jser_grammar.specs.Parts.{IsText}
 use Rattle.jser_reading.specs.Moments.{Moment}
 use Rattle.jser_reading.specs.Labels.{Tag, null_tag, reference_tag, class_desc_tag, object_tag, string_tag, array_tag, class_tag, long_string_tag, proxy_desc_tag, enum_tag, StreamToken, header_token, tag_token, block_tag_token, end_tag_token, reset_tag_token, handle_token, suid_token, flags_token, field_count_token, interface_count_token, array_length_token, code_token, text_token, block_length_token, prims_token, bytes_token, Position, nowhere, header_at, top_at, annotation_at, value_at, text_place_at, class_place_at, superclass_place_at, back_handle_at, text_handle_at, class_handle_at, superclass_handle_at, string_at, class_name_at, field_name_at, interface_name_at, suid_at, field_count_at, interface_count_at, array_length_at, flags_at, type_code_at, block_length_at, raw_at, bytes_at, Label, Piece, piece}
-use Rattle.jser_reading.specs.TokenBytes.{tag_byte, bytes_of, joined}
+use Rattle.jser_reading.specs.TokenBytes.{tag_byte, bytes_of}
 use Rattle.jser_reading.specs.TokensFromBytes.{number_of, head_size}
 use Rattle.jser_reading.specs.Accepts.{AcceptsAt}
 use Rattle.jser_reading.specs.ComesNext.{ComesNext}
@@ -13,7 +12,7 @@ use Rattle.jser_reading.proofs.Next.{next_law}
 use Rattle.jser_reading.proofs.Decoding.{number_4, length-big_bytes}
 use Rattle.jser_reader.specs.declared.Item.{Item}
 use Rattle.jser_reader.specs.declared.Item.TheVariants as item
-use Rattle.jser_reader.specs.Items.{Items, text_items, items_at, IsOfText, IsRawPart, IsLent}
+use Rattle.jser_reader.specs.Items.{text_items, items_at, IsOfText, IsRawPart, IsLent}
 use Rattle.jser_shown.specs.Counting.{tally_one}
 use Rattle.jser_names.specs.Collecting.{Collected, collect, collect_text, collected, measure, measured}
 use Rattle.jser_names.specs.Standing.{left_behind, longest_behind}
@@ -28,11 +27,6 @@ pub measured_one : (n : ℕ) (front : List Piece) (label : Label) (told : Stream
 measured_one n [] label told = refl
 measured_one n (piece l f ∷ front) label told = measured_one (measure f n) front label told
 
-pub joined_one : (front : List Piece) (label : Label) (told : StreamToken) → joined (front ++ (piece label told ∷ [])) ≡ joined front ++ bytes_of told
-joined_one [] label told = append-nil (bytes_of told)
-joined_one (piece l f ∷ front) label told =
-    ap (λ xs. bytes_of f ++ xs) (joined_one front label told) ∙ sym (append_assoc (bytes_of f) (joined front) (bytes_of told))
-
 pub same_label : (front : List Piece) (a b : Label) → ComesNext front a → ComesNext front b → a ≡ b
 same_label front a b h i = ((next_law front a).0 h).1 ∙ sym ((next_law front b).0 i).1
 
@@ -45,53 +39,6 @@ less_one units x (suc n) some =
     let same : n ≡ suc n - 1 = omega arith in ap (λ k. record { names = tally_one units x.names; left = k }) same
 
 -- ---- which items a token has
-
--- the text of a token, if it is one
-abbrev pub IsTextToken : Bool → StreamToken → Type 0
-IsTextToken long told = (units : List ℕ) × IsText long units × (told ≡ text_token long units)
-
-abbrev IsTexts : Items → Type 0
-IsTexts (text_items long) = Unit {0}
-IsTexts _ = ⊥
-
-abbrev long_in : Items → Bool
-long_in (text_items long) = long
-long_in _ = false
-
-text_of : (at long : Bool) (units : List ℕ) → text_items at ≡ text_items long → IsText at units → IsTextToken long (text_token at units)
-text_of at long units e t =
-    let same = ap long_in e in
-    (units, subst (λ l. IsText l units) same t, ap (λ l. text_token l units) same)
-
-pub text_told : (p : Position) (m : Moment) (told : StreamToken) (long : Bool) → AcceptsAt p m told → items_at p ≡ text_items long → IsTextToken long told
-text_told (string_at false) m (text_token false units) long a e = text_of false long units e a
-text_told (string_at true) m (text_token true units) long a e = text_of true long units e a
-text_told (class_name_at role) m (text_token false units) long a e = text_of false long units e a.0.0
-text_told field_name_at m (text_token false units) long a e = text_of false long units e a
-text_told interface_name_at m (text_token false units) long a e = text_of false long units e a.0
-text_told nowhere m told long a e = absurd (subst IsTexts (sym e) tt)
-text_told header_at m told long a e = absurd (subst IsTexts (sym e) tt)
-text_told top_at m told long a e = absurd (subst IsTexts (sym e) tt)
-text_told annotation_at m told long a e = absurd (subst IsTexts (sym e) tt)
-text_told value_at m told long a e = absurd (subst IsTexts (sym e) tt)
-text_told text_place_at m told long a e = absurd (subst IsTexts (sym e) tt)
-text_told (class_place_at owner) m told long a e = absurd (subst IsTexts (sym e) tt)
-text_told (superclass_place_at owner strict) m told long a e = absurd (subst IsTexts (sym e) tt)
-text_told back_handle_at m told long a e = absurd (subst IsTexts (sym e) tt)
-text_told text_handle_at m told long a e = absurd (subst IsTexts (sym e) tt)
-text_told (class_handle_at owner) m told long a e = absurd (subst IsTexts (sym e) tt)
-text_told (superclass_handle_at owner strict) m told long a e = absurd (subst IsTexts (sym e) tt)
-text_told suid_at m told long a e = absurd (subst IsTexts (sym e) tt)
-text_told field_count_at m told long a e = absurd (subst IsTexts (sym e) tt)
-text_told interface_count_at m told long a e = absurd (subst IsTexts (sym e) tt)
-text_told array_length_at m told long a e = absurd (subst IsTexts (sym e) tt)
-text_told (flags_at role) m told long a e = absurd (subst IsTexts (sym e) tt)
-text_told (type_code_at seen) m told long a e = absurd (subst IsTexts (sym e) tt)
-text_told (block_length_at false) m told long a e = absurd (subst IsTexts (sym e) tt)
-text_told (block_length_at true) m told long a e = absurd (subst IsTexts (sym e) tt)
-text_told (raw_at c n) m told long a e = absurd (subst IsTexts (sym e) tt)
-text_told (bytes_at n) m told long a e = absurd (subst IsTexts (sym e) tt)
-text_told _ m told long a e = absurd a
 
 same_rest : (xs zs ys ws : List ℕ) → xs ++ ys ≡ zs ++ ws → length xs ≡ length zs → ys ≡ ws
 same_rest [] [] ys ws e n = e

@@ -1,23 +1,20 @@
 -- Where a reader stands after an item, with the names collected.
-use Rattle.std.proofs.Common.{◌≡◌, ◌⊎◌, inl, inr, ℕ, zero, suc, ◌-◌, ◌<◌, ◌≤◌, Bool, true, false, List, [], ◌∷◌, ◌++◌, length, take, Ok, refl, sym, ◌∙◌, ap, subst, arith, append_assoc, append-nil, length-append}
-use Rattle.std.proofs.lemmas.List.{length-take-le}
+use Rattle.std.proofs.Common.{◌≡◌, ◌⊎◌, inl, inr, ℕ, zero, suc, ◌-◌, ◌<◌, ◌≤◌, Bool, true, false, List, [], ◌∷◌, ◌++◌, length, refl, sym, ◌∙◌, ap, subst, arith, append_assoc, append-nil, length-append}
 use Rattle.std.proofs.lemmas.Bool.Decides.{nat_tests}
 use Rattle.std.specs.Prelude.{if◌then◌else◌, nat_eq}
 use Rattle.jser_reading.specs.Labels.{StreamToken, text_token, Label, Piece, piece}
-use Rattle.jser_reading.specs.TokenBytes.{bytes_of, joined}
+use Rattle.jser_reading.specs.TokenBytes.{bytes_of}
 use Rattle.jser_reading.specs.TokensFromBytes.{head_size}
 use Rattle.jser_reading.specs.ComesNext.{ComesNext}
 use Rattle.jser_reader.specs.declared.Item.{Item}
 use Rattle.jser_reader.specs.declared.Item.TheVariants as item
-use Rattle.jser_reader.specs.declared.Step.TheVariants as step
-use Rattle.jser_reader.specs.declared.tally.Tally.{Tally}
-use Rattle.jser_reader.specs.Gates.{open_gate}
 use Rattle.jser_reader.specs.Items.{text_items, items_at, first_size, IsOfText, IsLent}
-use Rattle.jser_reader.specs.ItemsTold.{StandsIn, TokenEnds, IsFull, MayGoOn, TokenGoesOn, Lends, WantsMore, TellsItems}
-use Rattle.jser_reader.specs.Readers.{Seen}
+use Rattle.jser_reader.specs.ItemsTold.{MayGoOn}
+use Rattle.jser_reader.specs.Visits.{Spot, EndsToken, StaysInToken, IsNext, IsShort}
+use Rattle.jser_reader.proofs.TextTokens.{IsTextToken, text_told}
 use Rattle.jser_names.specs.Collecting.{begin_collecting, collect, collected, measure, measured}
-use Rattle.jser_names.specs.Standing.{Names, view_of, ClosesName, Closes, Adds, begun, behind, ClosesThen, Takes, InText, Closed, Ended, GoesOn, IsAt, Stands}
-use Rattle.jser_names.proofs.ItemLemmas.{collected_one, measured_one, joined_one, same_label, text_none, less_one, IsTextToken, text_told, behind_head, IsTextItem, text_at, ends_plain, ends_measured}
+use Rattle.jser_names.specs.Standing.{Names, view_of, ClosesName, Closes, Adds, begun, behind, ClosesThen, Takes, InText, Closed, Ended, GoesOn, IsAt}
+use Rattle.jser_names.proofs.ItemLemmas.{collected_one, measured_one, same_label, text_none, less_one, behind_head, IsTextItem, text_at, ends_plain, ends_measured}
 
 -- ---- no text, and the end of a name
 
@@ -25,7 +22,7 @@ pub head_some : (long : Bool) → 0 < head_size long
 head_some false = omega arith
 head_some true = omega arith
 
-pub no_text : (front : List Piece) → InText front [] → ⊥
+no_text : (front : List Piece) → InText front [] → ⊥
 no_text front t = let a = head_some t.long in let b = t.past in omega arith
 
 pub close_closed : (front : List Piece) (cut : List ℕ) (old mid : Names) → Closed front cut old → Closes old.is_open old mid → Closed front cut mid
@@ -47,38 +44,35 @@ close_ended front cut old mid e closes =
 
 -- ---- after a token, and within one
 
--- an item further; before it the longest array had this length
-pub record Further (front : List Piece) (cut taken : List ℕ) (longest : ℕ) (r : Seen) (tally : Tally) (new : Names) : Type 0 where
-  pub tokens : List Piece
-  pub over : List ℕ
-  pub joins : joined tokens ++ over ≡ (joined front ++ cut) ++ taken
-  pub reads : StandsIn open_gate tokens over r tally
-  pub at : IsAt tokens over new
-  pub measures : measured 0 front ≡ longest → measured 0 tokens ≡ new.longest
+abbrev spot : List Piece → List ℕ → Spot
+spot front cut = record { front = front; cut = cut }
 
-past_token : (front : List Piece) (cut taken : List ℕ) (label : Label) (longest : ℕ) (r : Seen) (tally : Tally) (new : Names) (e : TokenEnds open_gate front label (cut ++ taken) r tally)
-    → IsAt (front ++ (piece label e.token ∷ [])) [] new → measure e.token longest ≡ new.longest → Further front cut taken longest r tally new
-past_token front cut taken label longest r tally new e at measures = record {
-  tokens = front ++ (piece label e.token ∷ []);
-  over = [];
-  joins =
-      append-nil (joined (front ++ (piece label e.token ∷ []))) ∙ joined_one front label e.token ∙ ap (λ xs. joined front ++ xs) e.spelled
-      ∙ sym (append_assoc (joined front) cut taken);
-  reads = e.stands;
-  at = at;
-  measures = λ before. measured_one 0 front label e.token ∙ ap (measure e.token) before ∙ measures;
+-- where the names stand at a spot; the longest array had this length behind these tokens
+record Further (front : List Piece) (longest : ℕ) (to : Spot) (new : Names) : Type 0 where
+  at : IsAt to.front to.cut new
+  measures : measured 0 front ≡ longest → measured 0 to.front ≡ new.longest
+
+past_token : (front : List Piece) (cut taken : List ℕ) (label : Label) (longest : ℕ) (to : Spot) (new : Names) (e : EndsToken (spot front cut) label (cut ++ taken) to)
+    → IsAt (front ++ (piece label e.token ∷ [])) [] new → measure e.token longest ≡ new.longest → Further front longest to new
+past_token front cut taken label longest to new e at measures = record {
+  at = subst (λ xs. IsAt xs to.cut new) (sym e.front_is) (subst (λ xs. IsAt (front ++ (piece label e.token ∷ [])) xs new) (sym e.cut_is) at);
+  measures = λ before. ap (measured 0) e.front_is ∙ measured_one 0 front label e.token ∙ ap (measure e.token) before ∙ measures;
 }
 
-in_token : (front : List Piece) (cut taken : List ℕ) (longest : ℕ) (r : Seen) (tally : Tally) (new : Names) → StandsIn open_gate front (cut ++ taken) r tally
-    → IsAt front (cut ++ taken) new → longest ≡ new.longest → Further front cut taken longest r tally new
-in_token front cut taken longest r tally new st at same = record {
-  tokens = front;
-  over = cut ++ taken;
-  joins = sym (append_assoc (joined front) cut taken);
-  reads = st;
-  at = at;
-  measures = λ before. before ∙ same;
+-- the bytes of the next token are these
+record StaysIn (front : List Piece) (bytes : List ℕ) (to : Spot) : Type 0 where
+  front_is : to.front ≡ front
+  cut_is : to.cut ≡ bytes
+
+in_token : (front : List Piece) (bytes : List ℕ) (longest : ℕ) (to : Spot) (new : Names) → StaysIn front bytes to
+    → IsAt front bytes new → longest ≡ new.longest → Further front longest to new
+in_token front bytes longest to new st at same = record {
+  at = subst (λ xs. IsAt xs to.cut new) (sym st.front_is) (subst (λ xs. IsAt front xs new) (sym st.cut_is) at);
+  measures = λ before. ap (measured 0) st.front_is ∙ before ∙ same;
 }
+
+stays_in : (front : List Piece) (bytes : List ℕ) (lent : Item) (to : Spot) {cut : List ℕ} → StaysInToken (spot front cut) bytes lent to → StaysIn front bytes to
+stays_in front bytes lent to o = record { front_is = o.front_is; cut_is = o.cut_is }
 
 -- a text has no length of an array
 text_measures : (told : StreamToken) (long : Bool) (units : List ℕ) (longest : ℕ) → told ≡ text_token long units → measure told longest ≡ longest
@@ -86,13 +80,13 @@ text_measures told long units longest is = ap (λ f. measure f longest) is
 
 -- ---- bytes of a text
 
-part_closed : (front : List Piece) (cut taken : List ℕ) (label : Label) (long : Bool) (r : Seen) (tally : Tally) (old new : Names) → Closed front cut old
+part_closed : (front : List Piece) (cut taken : List ℕ) (label : Label) (long : Bool) (to : Spot) (old new : Names) → Closed front cut old
     → ComesNext front label → items_at label.position ≡ text_items long → head_size long ≤ length cut → new ≡ old
-    → (e : TokenEnds open_gate front label (cut ++ taken) r tally) → Further front cut taken old.longest r tally new
-part_closed front cut taken label long r tally old new c comes texts past same e =
+    → (e : EndsToken (spot front cut) label (cut ++ taken) to) → Further front old.longest to new
+part_closed front cut taken label long to old new c comes texts past same e =
     let none : old.left ≡ 0 = c.plain (record { label = label; comes = comes; long = long; is_text = texts; past = past }) in
     let t : IsTextToken long e.token = text_told label.position label.moment e.token long e.accepted texts in
-    past_token front cut taken label old.longest r tally new e
+    past_token front cut taken label old.longest to new e
     (inl (record {
       is = ap (λ y. y.is_open) same ∙ c.is;
       so_far =
@@ -101,23 +95,23 @@ part_closed front cut taken label long r tally old new c comes texts past same e
       plain = λ i. absurd (no_text (front ++ (piece label e.token ∷ [])) i);
     })) (text_measures e.token long t.0 old.longest t.2 ∙ sym (ap (λ y. y.longest) same))
 
-part_closed_on : (front : List Piece) (cut taken : List ℕ) (label : Label) (long : Bool) (r : Seen) (tally : Tally) (old new : Names) → Closed front cut old
+part_closed_on : (front : List Piece) (cut taken : List ℕ) (label : Label) (long : Bool) (to : Spot) (old new : Names) → Closed front cut old
     → ComesNext front label → items_at label.position ≡ text_items long → head_size long ≤ length cut → new ≡ old
-    → StandsIn open_gate front (cut ++ taken) r tally → Further front cut taken old.longest r tally new
-part_closed_on front cut taken label long r tally old new c comes texts past same st =
+    → StaysIn front (cut ++ taken) to → Further front old.longest to new
+part_closed_on front cut taken label long to old new c comes texts past same st =
     let none : old.left ≡ 0 = c.plain (record { label = label; comes = comes; long = long; is_text = texts; past = past }) in
-    in_token front cut taken old.longest r tally new st
+    in_token front (cut ++ taken) old.longest to new st
     (inl (record { is = ap (λ y. y.is_open) same ∙ c.is; so_far = c.so_far ∙ ap view_of (sym same); plain = λ i. ap (λ y. y.left) same ∙ none }))
     (sym (ap (λ y. y.longest) same))
 
-part_goes : (front : List Piece) (cut taken : List ℕ) (label : Label) (long : Bool) (r : Seen) (tally : Tally) (old new : Names) (g : GoesOn front cut old)
+part_goes : (front : List Piece) (cut taken : List ℕ) (label : Label) (long : Bool) (to : Spot) (old new : Names) (g : GoesOn front cut old)
     → items_at label.position ≡ text_items g.long → new ≡ record old { text = old.text ++ taken }
-    → (e : TokenEnds open_gate front label (cut ++ taken) r tally) → Further front cut taken old.longest r tally new
-part_goes front cut taken label long r tally old new g texts is e =
+    → (e : EndsToken (spot front cut) label (cut ++ taken) to) → Further front old.longest to new
+part_goes front cut taken label long to old new g texts is e =
     let t : IsTextToken g.long e.token = text_told label.position label.moment e.token g.long e.accepted texts in
     let bytes : bytes_of e.token ≡ g.head ++ (old.text ++ taken) =
     e.spelled ∙ ap (λ c. c ++ taken) g.cut_is ∙ append_assoc g.head old.text taken in
-    past_token front cut taken label old.longest r tally new e
+    past_token front cut taken label old.longest to new e
     (inr (inl (record {
       is = ap (λ y. y.is_open) is ∙ g.is;
       some = subst (λ n. 0 < n) (sym (ap (λ y. y.left) is)) g.some;
@@ -132,10 +126,10 @@ part_goes front cut taken label long r tally old new g texts is e =
       plain = λ i. no_text (front ++ (piece label e.token ∷ [])) i;
     }))) (text_measures e.token g.long t.0 old.longest t.2 ∙ sym (ap (λ y. y.longest) is))
 
-part_goes_on : (front : List Piece) (cut taken : List ℕ) (r : Seen) (tally : Tally) (old new : Names) (g : GoesOn front cut old)
-    → new ≡ record old { text = old.text ++ taken } → StandsIn open_gate front (cut ++ taken) r tally → Further front cut taken old.longest r tally new
-part_goes_on front cut taken r tally old new g is st =
-    in_token front cut taken old.longest r tally new st
+part_goes_on : (front : List Piece) (cut taken : List ℕ) (to : Spot) (old new : Names) (g : GoesOn front cut old)
+    → new ≡ record old { text = old.text ++ taken } → StaysIn front (cut ++ taken) to → Further front old.longest to new
+part_goes_on front cut taken to old new g is st =
+    in_token front (cut ++ taken) old.longest to new st
     (inr (inr (record {
       is = ap (λ y. y.is_open) is ∙ g.is;
       some = subst (λ n. 0 < n) (sym (ap (λ y. y.left) is)) g.some;
@@ -151,7 +145,7 @@ part_goes_on front cut taken r tally old new g is st =
 
 -- ---- the length of a text
 
-begun_none : (mid : Names) → mid.left ≡ 0 → begun mid ≡ mid
+pub begun_none : (mid : Names) → mid.left ≡ 0 → begun mid ≡ mid
 begun_none mid none = ap (λ n. if nat_eq n 0 then mid else record mid { is_open = true; text = [] }) none
 
 not_none : (n : ℕ) → nat_eq (suc n) 0 ≡ false
@@ -174,13 +168,13 @@ empty_text : (xs : List ℕ) → length xs ≡ 0 → xs ≡ []
 empty_text [] e = refl
 empty_text (x ∷ xs) e = absurd (omega arith)
 
-length_ends : (front : List Piece) (cut taken : List ℕ) (label : Label) (long : Bool) (r : Seen) (tally : Tally) (mid new : Names) → Closed front cut mid
+length_ends : (front : List Piece) (cut taken : List ℕ) (label : Label) (long : Bool) (to : Spot) (mid new : Names) → Closed front cut mid
     → ComesNext front label → items_at label.position ≡ text_items long → length (cut ++ taken) ≡ head_size long → new ≡ begun mid → Many mid.left
-    → (e : TokenEnds open_gate front label (cut ++ taken) r tally) → Further front cut taken mid.longest r tally new
-length_ends front cut taken label long r tally mid new c comes texts size is (none_left none) e =
+    → (e : EndsToken (spot front cut) label (cut ++ taken) to) → Further front mid.longest to new
+length_ends front cut taken label long to mid new c comes texts size is (none_left none) e =
     let t : IsTextToken long e.token = text_told label.position label.moment e.token long e.accepted texts in
     let same : new ≡ mid = is ∙ begun_none mid none in
-    past_token front cut taken label mid.longest r tally new e
+    past_token front cut taken label mid.longest to new e
     (inl (record {
       is = ap (λ y. y.is_open) same ∙ c.is;
       so_far =
@@ -188,10 +182,10 @@ length_ends front cut taken label long r tally mid new c comes texts size is (no
           ∙ ap (collect (text_token long t.0)) c.so_far ∙ text_none t.0 (view_of mid) none ∙ ap view_of (sym same);
       plain = λ i. absurd (no_text (front ++ (piece label e.token ∷ [])) i);
     })) (text_measures e.token long t.0 mid.longest t.2 ∙ sym (ap (λ y. y.longest) same))
-length_ends front cut taken label long r tally mid new c comes texts size is (some_left some) e =
+length_ends front cut taken label long to mid new c comes texts size is (some_left some) e =
     let t : IsTextToken long e.token = text_told label.position label.moment e.token long e.accepted texts in
     let same : new ≡ record mid { is_open = true; text = [] } = is ∙ begun_some mid.left mid some in
-    past_token front cut taken label mid.longest r tally new e
+    past_token front cut taken label mid.longest to new e
     (inr (inl (record {
       is = ap (λ y. y.is_open) same;
       some = subst (λ n. 0 < n) (sym (ap (λ y. y.left) same)) some;
@@ -207,17 +201,17 @@ length_ends front cut taken label long r tally mid new c comes texts size is (so
       plain = λ i. no_text (front ++ (piece label e.token ∷ [])) i;
     }))) (text_measures e.token long t.0 mid.longest t.2 ∙ sym (ap (λ y. y.longest) same))
 
-length_goes_on : (front : List Piece) (cut taken : List ℕ) (label : Label) (long : Bool) (r : Seen) (tally : Tally) (mid new : Names) → Closed front cut mid
+length_goes_on : (front : List Piece) (cut taken : List ℕ) (label : Label) (long : Bool) (to : Spot) (mid new : Names) → Closed front cut mid
     → ComesNext front label → items_at label.position ≡ text_items long → length (cut ++ taken) ≡ head_size long → new ≡ begun mid → Many mid.left
-    → StandsIn open_gate front (cut ++ taken) r tally → Further front cut taken mid.longest r tally new
-length_goes_on front cut taken label long r tally mid new c comes texts size is (none_left none) st =
+    → StaysIn front (cut ++ taken) to → Further front mid.longest to new
+length_goes_on front cut taken label long to mid new c comes texts size is (none_left none) st =
     let same : new ≡ mid = is ∙ begun_none mid none in
-    in_token front cut taken mid.longest r tally new st
+    in_token front (cut ++ taken) mid.longest to new st
     (inl (record { is = ap (λ y. y.is_open) same ∙ c.is; so_far = c.so_far ∙ ap view_of (sym same); plain = λ i. ap (λ y. y.left) same ∙ none }))
     (sym (ap (λ y. y.longest) same))
-length_goes_on front cut taken label long r tally mid new c comes texts size is (some_left some) st =
+length_goes_on front cut taken label long to mid new c comes texts size is (some_left some) st =
     let same : new ≡ record mid { is_open = true; text = [] } = is ∙ begun_some mid.left mid some in
-    in_token front cut taken mid.longest r tally new st
+    in_token front (cut ++ taken) mid.longest to new st
     (inr (inr (record {
       is = ap (λ y. y.is_open) same;
       some = subst (λ n. 0 < n) (sym (ap (λ y. y.left) same)) some;
@@ -233,11 +227,11 @@ length_goes_on front cut taken label long r tally mid new c comes texts size is 
 
 -- ---- another item
 
-plain_ends : (front : List Piece) (cut taken : List ℕ) (lent : Item) (label : Label) (r : Seen) (tally : Tally) (mid new : Names) → Closed front cut mid
+plain_ends : (front : List Piece) (cut taken : List ℕ) (lent : Item) (label : Label) (to : Spot) (mid new : Names) → Closed front cut mid
     → (IsTextItem lent → ⊥) → IsLent (items_at label.position) cut taken lent → new ≡ behind lent mid
-    → (e : TokenEnds open_gate front label (cut ++ taken) r tally) → Further front cut taken mid.longest r tally new
-plain_ends front cut taken lent label r tally mid new c plain h is e =
-    past_token front cut taken label mid.longest r tally new e
+    → (e : EndsToken (spot front cut) label (cut ++ taken) to) → Further front mid.longest to new
+plain_ends front cut taken lent label to mid new c plain h is e =
+    past_token front cut taken label mid.longest to new e
     (inl (record {
       is = ap (λ y. y.is_open) is ∙ c.is;
       so_far =
@@ -257,19 +251,19 @@ no_text_lent long cut taken (item.TextLength n) plain h = plain tt
 no_text_lent long cut taken (item.TextPart part) plain h = plain tt
 no_text_lent long cut taken _ plain h = h
 
-plain_goes_on : (front : List Piece) (cut given : List ℕ) (used : ℕ) (lent : Item) (label : Label) (r : Seen) (tally : Tally) (mid new : Names)
-    → Closed front cut mid → ComesNext front label → (IsTextItem lent → ⊥) → IsLent (items_at label.position) cut (take used given) lent
-    → new ≡ behind lent mid → TokenGoesOn open_gate front (cut ++ take used given) given used lent r tally
-    → Further front cut (take used given) mid.longest r tally new
-plain_goes_on front cut given used lent label r tally mid new c comes plain h is o =
-    let same : new ≡ mid = is ∙ is_raw lent (IsFull open_gate front (cut ++ take used given) given used) plain o.full mid in
-    in_token front cut (take used given) mid.longest r tally new o.stands
+plain_goes_on : (front : List Piece) (cut taken : List ℕ) (lent : Item) (label : Label) (to : Spot) (mid new : Names)
+    → Closed front cut mid → ComesNext front label → (IsTextItem lent → ⊥) → IsLent (items_at label.position) cut taken lent
+    → new ≡ behind lent mid → StaysInToken (spot front cut) (cut ++ taken) lent to
+    → Further front mid.longest to new
+plain_goes_on front cut taken lent label to mid new c comes plain h is o =
+    let same : new ≡ mid = is ∙ is_raw lent (Unit {0}) plain o.may mid in
+    in_token front (cut ++ taken) mid.longest to new (stays_in front (cut ++ taken) lent to o)
     (inl (record {
       is = ap (λ y. y.is_open) same ∙ c.is;
       so_far = c.so_far ∙ ap view_of (sym same);
       plain = λ i.
           let texts : items_at label.position ≡ text_items i.long = ap (λ l. items_at l.position) (same_label front label i.label comes i.comes) ∙ i.is_text in
-          absurd (no_text_lent i.long cut (take used given) lent plain (subst (λ k. IsLent k cut (take used given) lent) texts h));
+          absurd (no_text_lent i.long cut taken lent plain (subst (λ k. IsLent k cut taken lent) texts h));
     })) (sym (ap (λ y. y.longest) same))
 
 -- ---- where a name is being read, bytes of it come
@@ -307,120 +301,101 @@ pub closes_longest : (was : Bool) (x mid : Names) → Closes was x mid → mid.l
 closes_longest true x mid c = c.longest
 closes_longest false x mid c = ap (λ y. y.longest) c
 
-after_length : (front : List Piece) (cut given : List ℕ) (n used : ℕ) (r : Seen) (tally : Tally) (old new : Names) → IsAt front cut old
-    → 0 < length (take used given) → (l : Lends open_gate front cut given (item.TextLength n) used r tally) → ClosesThen old new begun
-    → Further front cut (take used given) old.longest r tally new
-after_length front cut given n used r tally old new at some l did =
-    let taken = take used given in
-    let t = text_at l.label.position cut taken (item.TextLength n) tt l.is in
-    let size : length (cut ++ taken) ≡ head_size t.0 = (subst (λ k. IsLent k cut taken (item.TextLength n)) t.1 l.is).0 in
-    let c = closes_there front cut taken (item.TextLength n) l.label old did.mid at l.comes some l.is (λ p. p) did.closes in
-    subst (λ k. Further front cut (take used given) k r tally new) (closes_longest old.is_open old did.mid did.closes) (cases t size c l.after)
+after_length : (front : List Piece) (cut : List ℕ) (n : ℕ) (to : Spot) (old new : Names) → IsAt front cut old → IsNext (spot front cut) (item.TextLength n) to
+    → ClosesThen old new begun → Further front old.longest to new
+after_length front cut n to old new at l did =
+    let t = text_at l.label.position cut l.taken (item.TextLength n) tt l.is in
+    let size : length (cut ++ l.taken) ≡ head_size t.0 = (subst (λ k. IsLent k cut l.taken (item.TextLength n)) t.1 l.is).0 in
+    let c = closes_there front cut l.taken (item.TextLength n) l.label old did.mid at l.comes l.some l.is (λ p. p) did.closes in
+    subst (λ k. Further front k to new) (closes_longest old.is_open old did.mid did.closes) (cases t size c l.after)
   where
-    taken : List ℕ
-    taken = take used given
+    cases : (t : (long : Bool) × (items_at l.label.position ≡ text_items long)) → length (cut ++ l.taken) ≡ head_size t.0 → Closed front cut did.mid
+        → EndsToken (spot front cut) l.label (cut ++ l.taken) to ⊎ StaysInToken (spot front cut) (cut ++ l.taken) (item.TextLength n) to
+        → Further front did.mid.longest to new
+    cases t size c (inl e) = length_ends front cut l.taken l.label t.0 to did.mid new c l.comes t.1 size did.is (many did.mid.left) e
+    cases t size c (inr o) =
+        length_goes_on front cut l.taken l.label t.0 to did.mid new c l.comes t.1 size did.is (many did.mid.left)
+        (stays_in front (cut ++ l.taken) (item.TextLength n) to o)
 
-    cases : (t : (long : Bool) × (items_at l.label.position ≡ text_items long)) → length (cut ++ taken) ≡ head_size t.0 → Closed front cut did.mid
-        → TokenEnds open_gate front l.label (cut ++ take used given) r tally ⊎ TokenGoesOn open_gate front (cut ++ take used given) given used (item.TextLength n) r tally
-        → Further front cut (take used given) did.mid.longest r tally new
-    cases t size c (inl e) = length_ends front cut taken l.label t.0 r tally did.mid new c l.comes t.1 size did.is (many did.mid.left) e
-    cases t size c (inr o) = length_goes_on front cut taken l.label t.0 r tally did.mid new c l.comes t.1 size did.is (many did.mid.left) o.stands
-
-after_plain : (front : List Piece) (cut given : List ℕ) (lent : Item) (used : ℕ) (r : Seen) (tally : Tally) (old new : Names) → IsAt front cut old
-    → 0 < length (take used given) → (IsTextItem lent → ⊥) → (IsPart lent → ⊥) → (l : Lends open_gate front cut given lent used r tally)
-    → ClosesThen old new (behind lent) → Further front cut (take used given) old.longest r tally new
-after_plain front cut given lent used r tally old new at some plain other l did =
-    let c = closes_there front cut (take used given) lent l.label old did.mid at l.comes some l.is other did.closes in
-    subst (λ k. Further front cut (take used given) k r tally new) (closes_longest old.is_open old did.mid did.closes) (cases c l.after)
+after_plain : (front : List Piece) (cut : List ℕ) (lent : Item) (to : Spot) (old new : Names) → IsAt front cut old
+    → (IsTextItem lent → ⊥) → (IsPart lent → ⊥) → IsNext (spot front cut) lent to → ClosesThen old new (behind lent) → Further front old.longest to new
+after_plain front cut lent to old new at plain other l did =
+    let c = closes_there front cut l.taken lent l.label old did.mid at l.comes l.some l.is other did.closes in
+    subst (λ k. Further front k to new) (closes_longest old.is_open old did.mid did.closes) (cases c l.after)
   where
     cases : Closed front cut did.mid
-        → TokenEnds open_gate front l.label (cut ++ take used given) r tally ⊎ TokenGoesOn open_gate front (cut ++ take used given) given used lent r tally
-        → Further front cut (take used given) did.mid.longest r tally new
-    cases c (inl e) = plain_ends front cut (take used given) lent l.label r tally did.mid new c plain l.is did.is e
-    cases c (inr o) = plain_goes_on front cut given used lent l.label r tally did.mid new c l.comes plain l.is did.is o
+        → EndsToken (spot front cut) l.label (cut ++ l.taken) to ⊎ StaysInToken (spot front cut) (cut ++ l.taken) lent to
+        → Further front did.mid.longest to new
+    cases c (inl e) = plain_ends front cut l.taken lent l.label to did.mid new c plain l.is did.is e
+    cases c (inr o) = plain_goes_on front cut l.taken lent l.label to did.mid new c l.comes plain l.is did.is o
 
 adds_part : (part taken : List ℕ) (old new : Names) → new ≡ record old { text = old.text ++ part } → part ≡ taken → new ≡ record old { text = old.text ++ taken }
 adds_part part taken old new adds is = adds ∙ ap (λ bs. record old { text = old.text ++ bs }) is
 
-after_part : (front : List Piece) (cut given part : List ℕ) (used : ℕ) (label : Label) (long : Bool) (r : Seen) (tally : Tally) (old new : Names)
-    → (is_lent : items_at label.position ≡ text_items long) → head_size long ≤ length cut → part ≡ take used given → ComesNext front label → IsAt front cut old → Adds old.is_open part old new
-    → TokenEnds open_gate front label (cut ++ take used given) r tally ⊎ StandsIn open_gate front (cut ++ take used given) r tally
-    → Further front cut (take used given) old.longest r tally new
-after_part front cut given part used label long r tally old new texts past is comes (inl c) adds (inl e) =
-    part_closed front cut (take used given) label long r tally old new c comes texts past (subst (λ b. Adds b part old new) c.is adds) e
-after_part front cut given part used label long r tally old new texts past is comes (inl c) adds (inr st) =
-    part_closed_on front cut (take used given) label long r tally old new c comes texts past (subst (λ b. Adds b part old new) c.is adds) st
-after_part front cut given part used label long r tally old new texts past is comes (inr (inl e)) adds x =
+after_part : (front : List Piece) (cut taken part : List ℕ) (label : Label) (long : Bool) (to : Spot) (old new : Names)
+    → (is_lent : items_at label.position ≡ text_items long) → head_size long ≤ length cut → part ≡ taken → ComesNext front label → IsAt front cut old → Adds old.is_open part old new
+    → EndsToken (spot front cut) label (cut ++ taken) to ⊎ StaysIn front (cut ++ taken) to
+    → Further front old.longest to new
+after_part front cut taken part label long to old new texts past is comes (inl c) adds (inl e) =
+    part_closed front cut taken label long to old new c comes texts past (subst (λ b. Adds b part old new) c.is adds) e
+after_part front cut taken part label long to old new texts past is comes (inl c) adds (inr st) =
+    part_closed_on front cut taken label long to old new c comes texts past (subst (λ b. Adds b part old new) c.is adds) st
+after_part front cut taken part label long to old new texts past is comes (inr (inl e)) adds x =
     absurd (e.plain (record { label = label; comes = comes; long = long; is_text = texts; past = past }))
-after_part front cut given part used label long r tally old new texts past is comes (inr (inr g)) adds (inl e) =
+after_part front cut taken part label long to old new texts past is comes (inr (inr g)) adds (inl e) =
     let texts_there : items_at label.position ≡ text_items g.long = ap (λ l. items_at l.position) (same_label front label g.label comes g.comes) ∙ g.is_text in
-    part_goes front cut (take used given) label long r tally old new g texts_there
-    (adds_part part (take used given) old new (subst (λ b. Adds b part old new) g.is adds) is) e
-after_part front cut given part used label long r tally old new texts past is comes (inr (inr g)) adds (inr st) =
-    part_goes_on front cut (take used given) r tally old new g
-    (adds_part part (take used given) old new (subst (λ b. Adds b part old new) g.is adds) is) st
+    part_goes front cut taken label long to old new g texts_there
+    (adds_part part taken old new (subst (λ b. Adds b part old new) g.is adds) is) e
+after_part front cut taken part label long to old new texts past is comes (inr (inr g)) adds (inr st) =
+    part_goes_on front cut taken to old new g
+    (adds_part part taken old new (subst (λ b. Adds b part old new) g.is adds) is) st
 
-stands_after : (front : List Piece) (label : Label) (cut given : List ℕ) (lent : Item) (used : ℕ) (r : Seen) (tally : Tally)
-    → TokenEnds open_gate front label (cut ++ take used given) r tally ⊎ TokenGoesOn open_gate front (cut ++ take used given) given used lent r tally
-    → TokenEnds open_gate front label (cut ++ take used given) r tally ⊎ StandsIn open_gate front (cut ++ take used given) r tally
-stands_after front label cut given lent used r tally (inl e) = inl e
-stands_after front label cut given lent used r tally (inr o) = inr o.stands
+stands_after : (front : List Piece) (label : Label) (bytes : List ℕ) (lent : Item) (to : Spot) {cut : List ℕ}
+    → EndsToken (spot front cut) label bytes to ⊎ StaysInToken (spot front cut) bytes lent to → EndsToken (spot front cut) label bytes to ⊎ StaysIn front bytes to
+stands_after front label bytes lent to (inl e) = inl e
+stands_after front label bytes lent to (inr o) = inr (stays_in front bytes lent to o)
 
-further : (front : List Piece) (cut given : List ℕ) (lent : Item) (used : ℕ) (r : Seen) (tally : Tally) (old new : Names) → IsAt front cut old
-    → 0 < length (take used given) → Lends open_gate front cut given lent used r tally → Takes lent old new → Further front cut (take used given) old.longest r tally new
-further front cut given (item.TextPart part) used r tally old new at some l did =
-    let t = text_at l.label.position cut (take used given) (item.TextPart part) tt l.is in
-    let k = subst (λ k. IsLent k cut (take used given) (item.TextPart part)) t.1 l.is in
-    after_part front cut given part.now used l.label t.0 r tally old new t.1 k.0 k.1 l.comes at did
-    (stands_after front l.label cut given (item.TextPart part) used r tally l.after)
-further front cut given (item.TextLength n) used r tally old new at some l did = after_length front cut given n used r tally old new at some l did
-further front cut given item.Header used r tally old new at some l did = after_plain front cut given item.Header used r tally old new at some (λ x. x) (λ x. x) l did
-further front cut given (item.Tag n) used r tally old new at some l did = after_plain front cut given (item.Tag n) used r tally old new at some (λ x. x) (λ x. x) l did
-further front cut given (item.Handle n) used r tally old new at some l did = after_plain front cut given (item.Handle n) used r tally old new at some (λ x. x) (λ x. x) l did
-further front cut given (item.Suid n) used r tally old new at some l did = after_plain front cut given (item.Suid n) used r tally old new at some (λ x. x) (λ x. x) l did
-further front cut given (item.Flags n) used r tally old new at some l did = after_plain front cut given (item.Flags n) used r tally old new at some (λ x. x) (λ x. x) l did
-further front cut given (item.FieldCount n) used r tally old new at some l did =
-    after_plain front cut given (item.FieldCount n) used r tally old new at some (λ x. x) (λ x. x) l did
-further front cut given (item.InterfaceCount n) used r tally old new at some l did =
-    after_plain front cut given (item.InterfaceCount n) used r tally old new at some (λ x. x) (λ x. x) l did
-further front cut given (item.TypeCode n) used r tally old new at some l did = after_plain front cut given (item.TypeCode n) used r tally old new at some (λ x. x) (λ x. x) l did
-further front cut given (item.ArrayLength n) used r tally old new at some l did =
-    after_plain front cut given (item.ArrayLength n) used r tally old new at some (λ x. x) (λ x. x) l did
-further front cut given (item.BlockLength n) used r tally old new at some l did =
-    after_plain front cut given (item.BlockLength n) used r tally old new at some (λ x. x) (λ x. x) l did
-further front cut given (item.RawPart part) used r tally old new at some l did =
-    after_plain front cut given (item.RawPart part) used r tally old new at some (λ x. x) (λ x. x) l did
+further : (front : List Piece) (cut : List ℕ) (lent : Item) (to : Spot) (old new : Names) → IsAt front cut old → IsNext (spot front cut) lent to → Takes lent old new
+    → Further front old.longest to new
+further front cut (item.TextPart part) to old new at l did =
+    let t = text_at l.label.position cut l.taken (item.TextPart part) tt l.is in
+    let k = subst (λ k. IsLent k cut l.taken (item.TextPart part)) t.1 l.is in
+    after_part front cut l.taken part.now l.label t.0 to old new t.1 k.0 k.1 l.comes at did
+    (stands_after front l.label (cut ++ l.taken) (item.TextPart part) to l.after)
+further front cut (item.TextLength n) to old new at l did = after_length front cut n to old new at l did
+further front cut item.Header to old new at l did = after_plain front cut item.Header to old new at (λ x. x) (λ x. x) l did
+further front cut (item.Tag n) to old new at l did = after_plain front cut (item.Tag n) to old new at (λ x. x) (λ x. x) l did
+further front cut (item.Handle n) to old new at l did = after_plain front cut (item.Handle n) to old new at (λ x. x) (λ x. x) l did
+further front cut (item.Suid n) to old new at l did = after_plain front cut (item.Suid n) to old new at (λ x. x) (λ x. x) l did
+further front cut (item.Flags n) to old new at l did = after_plain front cut (item.Flags n) to old new at (λ x. x) (λ x. x) l did
+further front cut (item.FieldCount n) to old new at l did = after_plain front cut (item.FieldCount n) to old new at (λ x. x) (λ x. x) l did
+further front cut (item.InterfaceCount n) to old new at l did = after_plain front cut (item.InterfaceCount n) to old new at (λ x. x) (λ x. x) l did
+further front cut (item.TypeCode n) to old new at l did = after_plain front cut (item.TypeCode n) to old new at (λ x. x) (λ x. x) l did
+further front cut (item.ArrayLength n) to old new at l did = after_plain front cut (item.ArrayLength n) to old new at (λ x. x) (λ x. x) l did
+further front cut (item.BlockLength n) to old new at l did = after_plain front cut (item.BlockLength n) to old new at (λ x. x) (λ x. x) l did
+further front cut (item.RawPart part) to old new at l did = after_plain front cut (item.RawPart part) to old new at (λ x. x) (λ x. x) l did
 
-pub takes_item : (taken given : List ℕ) (lent : Item) (used : ℕ) (r : Seen) (tally : Tally) (next : Seen) (after : Tally) (old new : Names) → Stands taken r tally old
-    → TellsItems open_gate given (Ok (step.Item lent used)) r tally next after → 0 < used → used ≤ length given → Takes lent old new
-    → Stands (taken ++ take used given) next after new
-unfolding TellsItems
-takes_item taken given lent used r tally next after old new h t some le did =
-    let size = length-take-le used given le in
-    let f = further h.front h.cut given lent used next after old new h.at (omega arith) (t h.front h.cut h.reads) did in
-    record {
-      front = f.tokens;
-      cut = f.over;
-      split = ap (λ xs. xs ++ take used given) h.split ∙ sym f.joins;
-      reads = f.reads;
-      at = f.at;
-      measures = f.measures h.measures;
-    }
+-- ---- all that a visitor took
 
--- ---- more is wanted
+-- the names and the longest array are those of the tokens before a spot
+abbrev pub StandsAt : Spot → Names → Type 0
+StandsAt at x = IsAt at.front at.cut x × (measured 0 at.front ≡ x.longest)
 
-wants_more : (front : List Piece) (cut given : List ℕ) (r : Seen) (tally : Tally) (x : Names) → 0 < length given → WantsMore open_gate front cut given r tally
-    → IsAt front cut x → IsAt front (cut ++ given) x
-wants_more front cut given r tally x some w at = cases at
+pub takes_item : (at to : Spot) (lent : Item) (old new : Names) → StandsAt at old → IsNext at lent to → Takes lent old new → StandsAt to new
+takes_item at to lent old new h n did = let f = further at.front at.cut lent to old new h.0 n did in (f.at, f.measures h.1)
+
+pub takes_short : (at to : Spot) (x : Names) → StandsAt at x → IsShort at to → StandsAt to x
+takes_short at to x h w =
+    (subst (λ xs. IsAt xs to.cut x) (sym w.front_is) (subst (λ xs. IsAt at.front xs x) (sym w.cut_is) (cases h.0)), ap (measured 0) w.front_is ∙ h.1)
   where
-    not_past : InText front (cut ++ given) → ⊥
+    not_past : InText at.front (at.cut ++ w.taken) → ⊥
     not_past i =
-        let texts : items_at w.label.position ≡ text_items i.long = ap (λ l. items_at l.position) (same_label front w.label i.label w.comes i.comes) ∙ i.is_text in
-        let short : length (cut ++ given) < head_size i.long = subst (λ k. length (cut ++ given) < first_size k) texts (w.short some) in
+        let texts : items_at w.label.position ≡ text_items i.long = ap (λ l. items_at l.position) (same_label at.front w.label i.label w.comes i.comes) ∙ i.is_text in
+        let short : length (at.cut ++ w.taken) < head_size i.long = subst (λ k. length (at.cut ++ w.taken) < first_size k) texts w.short in
         let past = i.past in
         omega arith
 
-    cases : IsAt front cut x → IsAt front (cut ++ given) x
+    cases : IsAt at.front at.cut x → IsAt at.front (at.cut ++ w.taken) x
     cases (inl c) = inl (record { is = c.is; so_far = c.so_far; plain = λ i. absurd (not_past i) })
     cases (inr (inl e)) = inr (inl (record {
       is = e.is;
@@ -437,20 +412,6 @@ wants_more front cut given r tally x some w at = cases at
     }))
     cases (inr (inr g)) =
         let a = ap length g.cut_is ∙ length-append g.head x.text in
-        let b = length-append cut given in
+        let b = length-append at.cut w.taken in
         let d = g.size in
         absurd (not_past (record { label = g.label; comes = g.comes; long = g.long; is_text = g.is_text; past = omega arith }))
-
-pub takes_more : (taken given : List ℕ) (r : Seen) (tally : Tally) (next : Seen) (after : Tally) (x : Names) → Stands taken r tally x → 0 < length given
-    → TellsItems open_gate given (Ok step.More) r tally next after → Stands (taken ++ given) next after x
-unfolding TellsItems
-takes_more taken given r tally next after x h some t =
-    let w = t h.front h.cut h.reads in
-    record {
-      front = h.front;
-      cut = h.cut ++ given;
-      split = ap (λ xs. xs ++ given) h.split ∙ append_assoc (joined h.front) h.cut given;
-      reads = w.stands;
-      at = wants_more h.front h.cut given next after x some w h.at;
-      measures = h.measures;
-    }

@@ -3,7 +3,6 @@ pub mod Finds
 pub mod Found
 pub mod Counts
 pub mod Named
-pub mod Pieces
 pub mod Sources
 pub mod Standing
 pub mod Wholes

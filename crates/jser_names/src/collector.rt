@@ -4,7 +4,7 @@ ghost use Rattle.jser_names.specs.Standing.{Adds, Closes, ClosesThen, Takes, beg
 
 use crate::counts::NameCounts;
 use jser_grammar::wire::TC_CLASSDESC;
-use jser_reader::Item;
+use jser_reader::{Item, Visit, Whole};
 use std::alloc::{AllocError, Global};
 use std::marker::Model;
 
@@ -50,53 +50,6 @@ impl Collector {
             units: Vec::new(alloc),
             longest: 0,
         }
-    }
-
-    /// Goes past an item.
-    pub(crate) fn take(&mut self, item: Item<'_>) -> Result<(), AllocError>
-        ensures { OnOk result (Takes item.entry self.old self.new) }
-    {
-        match item {
-            Item::TextPart(part) => self.add(part),
-            Item::TextLength(_) => {
-                self.close()?;
-                self.begin();
-                Ok(())
-            }
-            Item::Tag(tag) => {
-                self.close()?;
-                self.left = u32::from(tag == TC_CLASSDESC);
-                Ok(())
-            }
-            Item::InterfaceCount(count) => {
-                self.close()?;
-                self.left = count;
-                Ok(())
-            }
-            Item::ArrayLength(length) => {
-                self.close()?;
-                self.longest = self.longest.max(length);
-                Ok(())
-            }
-            Item::Header => self.close(),
-            Item::Handle(_) => self.close(),
-            Item::Suid(_) => self.close(),
-            Item::Flags(_) => self.close(),
-            Item::FieldCount(_) => self.close(),
-            Item::TypeCode(_) => self.close(),
-            Item::BlockLength(_) => self.close(),
-            Item::RawPart(_) => self.close(),
-        }
-    }
-
-    /// Goes past a value that is lent at once: no name is in it.
-    #[inline(always)]
-    pub(crate) fn pass(&mut self) -> Result<(), AllocError>
-        ensures { OnOk result (ClosesThen self.old self.new (λ x. record x { left = 0 })) }
-    {
-        self.close()?;
-        self.left = 0;
-        Ok(())
     }
 
     /// Keeps bytes of a text, if it is a name.
@@ -145,5 +98,57 @@ impl Collector {
         ensures { result ≡ self.names }
     {
         self.names
+    }
+}
+
+impl Visit for Collector {
+    type Fault = AllocError;
+
+    ghost takes = { λ item old new. Takes item old new };
+
+    ghost stops = { λ _ _ _ _. Unit {0} };
+
+    #[inline(always)]
+    fn item(&mut self, item: Item<'_>) -> Result<(), AllocError> {
+        match item {
+            Item::TextPart(part) => self.add(part),
+            Item::TextLength(_) => {
+                self.close()?;
+                self.begin();
+                Ok(())
+            }
+            Item::Tag(tag) => {
+                self.close()?;
+                self.left = u32::from(tag == TC_CLASSDESC);
+                Ok(())
+            }
+            Item::InterfaceCount(count) => {
+                self.close()?;
+                self.left = count;
+                Ok(())
+            }
+            Item::ArrayLength(length) => {
+                self.close()?;
+                self.longest = self.longest.max(length);
+                Ok(())
+            }
+            Item::Header => self.close(),
+            Item::Handle(_) => self.close(),
+            Item::Suid(_) => self.close(),
+            Item::Flags(_) => self.close(),
+            Item::FieldCount(_) => self.close(),
+            Item::TypeCode(_) => self.close(),
+            Item::BlockLength(_) => self.close(),
+            Item::RawPart(_) => self.close(),
+        }
+    }
+
+    /// No name is in it.
+    #[tactic(auto, using(crate::proofs::LentLemmas::passes_whole))]
+    #[inline(always)]
+    fn whole(&mut self, _: Whole<'_>) -> Result<(), AllocError> {
+        self.close()?;
+        self.left = 0;
+        Ok(())
     }
 }

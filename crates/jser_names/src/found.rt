@@ -7,11 +7,10 @@ ghost use Rattle.jser_names.specs.Standing.{Stands};
 use crate::collector::Collector;
 use crate::counts::NameCounts;
 use crate::laws::{lengths_are_measured, names_are_collected};
-use crate::piece::take_piece;
 use crate::taker::Taker;
-use jser_reader::{OpenGate, Reader, Stop, Totals};
+use jser_reader::{FeedFault, OpenGate, Reader, Stop, Totals};
 use jser_reading::laws::one_reading;
-use std::alloc::Global;
+use std::alloc::{AllocError, Global};
 
 /// What is found along a stream.
 #[derive(Drop)]
@@ -69,9 +68,13 @@ impl Taker for Naming {
 
     ghost finds = { HasFound };
 
-    #[tactic(auto, unfolding(crate::specs::Pieces::PieceTells))]
+    #[tactic(auto, using(crate::proofs::PieceLemmas::fed_all))]
     fn take(&mut self, piece: &[u8]) -> Result<(), Stop> {
-        take_piece(&mut self.reader, &mut self.names, piece)
+        match self.reader.feed(piece, &mut self.names) {
+            Ok(()) => Ok(()),
+            Err(FeedFault::Reader(stop)) => Err(stop),
+            Err(FeedFault::Visitor(AllocError)) => Err(Stop::OutOfMemory),
+        }
     }
 
     fn end(self) -> Result<Found, Stop> {

@@ -7,7 +7,6 @@ mod counts;
 mod found;
 pub mod laws;
 mod named;
-mod piece;
 mod source;
 mod taker;
 mod whole;
