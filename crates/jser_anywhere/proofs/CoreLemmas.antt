@@ -38,6 +38,18 @@ plain_part units i wants part here less dot is p =
     ∙ ap (λ b. if b then (if wants then false else plain_from true (drop (i + 1) units)) else (if is_part (get_or units i 0) then plain_from false (drop (i + 1) units) else false)) dot
     ∙ ap (λ b. if b then plain_from false (drop (i + 1) units) else false) (sym is ∙ p)
 
+small_is_part : (unit : ℕ) → (nat_le 0x61 unit && nat_le unit 0x7A) ≡ true → is_part unit ≡ true
+small_is_part unit small = grind (arith, nat_tests, small)
+
+small_is_no_dot : (unit : ℕ) → (nat_le 0x61 unit && nat_le unit 0x7A) ≡ true → (unit == 0x2E) ≡ false
+small_is_no_dot unit small = grind (arith, nat_tests, small)
+
+pub plain_small : (units : List ℕ) (i : ℕ) (wants small : Bool) → is_plain units ≡ plain_from wants (drop i units) → i < length units → small ≡ (nat_le 0x61 (get_or units i 0) && nat_le (get_or units i 0) 0x7A)
+    → small ≡ true → is_plain units ≡ plain_from false (drop (i + 1) units)
+plain_small units i wants small here less is s =
+    let test : (nat_le 0x61 (get_or units i 0) && nat_le (get_or units i 0) 0x7A) ≡ true = sym is ∙ s in
+    plain_part units i wants true here less (small_is_no_dot (get_or units i 0) test) (sym (small_is_part (get_or units i 0) test)) refl
+
 pub plain_other : (units : List ℕ) (i : ℕ) (wants part : Bool) → is_plain units ≡ plain_from wants (drop i units) → i < length units → (get_or units i 0 == 0x2E) ≡ false → part ≡ is_part (get_or units i 0) → part ≡ false
     → false ≡ is_plain units
 plain_other units i wants part here less dot is p =

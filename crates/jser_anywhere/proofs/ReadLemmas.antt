@@ -1,10 +1,14 @@
 -- Past letters of the descriptor's name that is being read.
-use Rattle.std.proofs.Common.{◌≡◌, ℕ, zero, suc, ◌+◌, ◌-◌, ◌*◌, ◌<◌, ◌≤◌, ◌∙◌, ap, sym, subst, Bool, true, false, ◌&&◌, ◌||◌, ◌==◌, ◌⊎◌, inl, inr, if◌then◌else◌, Option, Some, None, List, [], ◌∷◌, ◌++◌, length, take, drop, refl, arith, length-append, append_assoc, get_or}
+use Rattle.std.proofs.Common.{◌≡◌, ℕ, zero, suc, ◌+◌, ◌-◌, ◌*◌, ◌<◌, ◌≤◌, ◌∙◌, ap, sym, subst, Bool, true, false, ◌&&◌, ◌||◌, ◌==◌, ◌⊎◌, inl, inr, if◌then◌else◌, Option, Some, None, List, [], ◌∷◌, ◌++◌, length, take, drop, refl, arith, length-append, append_assoc, get_or, map, not, ◌%◌, ◌^◌, Fits, w8}
 use Rattle.std.specs.Prelude.{nat_le, min, IfSome}
 use Rattle.std.specs.Option.{is_some, option_map}
+use Rattle.std.specs.List.{prefix_len}
+use lib.Lanes.{chunk, mask_l, top}
+use Rattle.std.proofs.lemmas.Bool.{agree_below, agree_below_at}
+use Rattle.std.proofs.lemmas.Simd.{first_set_mask_l, length-chunk, map-map, mask_l-mod, run_in_chunk_fails, run_in_chunk_le}
 use Rattle.std.proofs.lemmas.Bool.{cases_lt}
 use Rattle.std.proofs.lemmas.Bool.Decides.{nat_tests}
-use Rattle.std.proofs.lemmas.List.{append-nil, get_or-drop, length-drop, length-reverse, length-take-le, take_all, take_more}
+use Rattle.std.proofs.lemmas.List.{append-nil, get_or-drop, length-drop, length-map, length-reverse, length-take-le, take_all, take_more}
 use Rattle.jser_anywhere.specs.declared.text.Place.{Place}
 use Rattle.jser_anywhere.specs.declared.text.Place.TheVariants as place
 use Rattle.jser_anywhere.specs.declared.text.Taken.TheVariants as taken
@@ -15,7 +19,7 @@ use Rattle.jser_anywhere.specs.Texts.{is_first, take_byte}
 use Rattle.jser_anywhere.specs.Names.{core}
 use Rattle.jser_anywhere.specs.Stages.{in_name}
 use Rattle.jser_anywhere.specs.Slots.{hidden_of, is_even, is_odd, lower}
-use Rattle.jser_anywhere.specs.Steps.{Scanning, may_begin, is_letter, IsText, recent_in, with_byte, left_of, begun, name_left, row_left, as_name, text_with, name_with, name_after, name_past, or_taken, kept_with, noted, noted_hidden, gone_on, row_or, row_begins, scan_hidden, scan_after, read_past}
+use Rattle.jser_anywhere.specs.Steps.{Scanning, first_set, may_begin, is_letter, IsText, recent_in, with_byte, left_of, begun, name_left, row_left, as_name, text_with, name_with, name_after, name_past, or_taken, kept_with, noted, noted_hidden, gone_on, row_or, row_begins, scan_hidden, scan_after, read_past}
 use Rattle.jser_anywhere.specs.Scans.{HasScanned, TakesBytes, Hurries, SkipFits, name_group, most_taken}
 use Rattle.jser_anywhere.proofs.QuietLemmas.{recent_same, same_recent}
 use Rattle.jser_anywhere.proofs.TakeLemmas.{byte_by}
@@ -50,6 +54,59 @@ text_more piece from to byte t less is low high small = record {
     | inr e ↦ subst (λ (n : ℕ). get_or piece n 0 < 256) (sym e) small
   ];
 }
+
+-- a run, and one behind it
+pub text_joined : (piece : List ℕ) (from mid to : ℕ) → IsText piece from mid → IsText piece mid to → IsText piece from to
+text_joined piece from mid to first second = record {
+  ordered = omega (arith, first.ordered, second.ordered);
+  within = second.within;
+  letters = λ at lower upper. elim (cases_lt at mid) [
+    | inl l ↦ first.letters at lower l
+    | inr not ↦ second.letters at (omega arith) upper
+  ];
+  bytes = λ at lower upper. elim (cases_lt at mid) [
+    | inl l ↦ first.bytes at lower l
+    | inr not ↦ second.bytes at (omega arith) upper
+  ];
+}
+
+-- the front of one
+pub text_front : (piece : List ℕ) (from mid to far : ℕ) → IsText piece from mid → IsText piece mid far → mid ≤ to → to ≤ far → IsText piece from to
+text_front piece from mid to far first second low high = record {
+  ordered = omega (arith, first.ordered);
+  within = omega (arith, second.within);
+  letters = λ at lower upper. (text_joined piece from mid far first second).letters at lower (omega arith);
+  bytes = λ at lower upper. (text_joined piece from mid far first second).bytes at lower (omega arith);
+}
+
+-- ---- sixteen bytes together
+
+module _ (bytes : List ℕ) (at run : ℕ) (mask : List ℕ) (room : at + 16 ≤ length bytes) (fits : (k : ℕ) → Fits w8 (get_or bytes k 0))
+    (found : run ≡ first_set (mask_l (map (top 7) mask) % 2 ^ 64) 16) (f : ℕ → ℕ) (lane : mask ≡ map f (chunk at 16 bytes)) where
+  -- the test whether a lane stops
+  abbrev stops : ℕ → Bool
+  stops b = top 7 (f b)
+
+  counted : run ≡ prefix_len (λ b. not (stops b)) (chunk at 16 bytes)
+  counted =
+      let v = chunk at 16 bytes in
+      let long = length-chunk at 16 bytes room in
+      let bits = ap (λ l. mask_l l % 2 ^ 64) (ap (map (top 7)) lane ∙ map-map (top 7) f v) ∙ mask_l-mod (map stops v) 64 (omega (arith, length-map v stops, long)) in
+      found ∙ ap (λ m. first_set m 16) bits ∙ first_set_mask_l stops v 16 long (omega arith)
+
+  pub letters_within : run ≤ 16
+  letters_within = run_in_chunk_le stops bytes at 16 run 0 room counted
+
+  -- the bytes of the run, where each byte at which no lane stops is a letter
+  pub run_of_letters : agree_below (λ b. stops b || is_letter b) (λ _. true) 256 ≡ true → IsText bytes at (at + run)
+  run_of_letters all = record {
+    ordered = omega arith;
+    within = omega (arith, letters_within);
+    letters = λ k from to.
+        let goes = run_in_chunk_fails stops bytes at 16 run 0 room counted k from to in
+        sym (ap (λ b. b || is_letter (get_or bytes k 0)) goes) ∙ agree_below_at (λ b. stops b || is_letter b) (λ _. true) 256 (get_or bytes k 0) all (fits k).fits;
+    bytes = λ k from to. (fits k).fits;
+  }
 
 -- letters that were kept
 pub pushed_none : (kept bytes : List ℕ) → length kept + length bytes ≤ 9217 → kept ≡ kept ++ take 0 bytes

@@ -232,6 +232,17 @@ gone_on scan byte = record {
 abbrev pub scan_after : Scanning → ℕ → Scanning
 scan_after scan byte = gone_on (noted scan byte) byte
 
+-- a row begins whose first text comes next, where none is being read
+abbrev pub with_row : Scanning → Begun → Scanning
+with_row scan begun = record {
+  count = scan.count;
+  recent = scan.recent;
+  kept = scan.kept;
+  name = scan.name;
+  even = row_begins (is_even (scan.count - 6)) (scan.count - 6) (length scan.kept) (Some begun);
+  odd = row_begins (is_odd (scan.count - 6)) (scan.count - 6) (length scan.kept) (Some begun);
+}
+
 -- ---- there is room for the next byte, and the groups that are being read are begun as groups can be
 
 abbrev pub NameFits : Option Name → Type 0

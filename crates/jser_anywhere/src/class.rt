@@ -1,5 +1,5 @@
 //! The class that a loadable name names.
-ghost use Rattle.std.specs.Prelude.{◌≡◌, ◌<◌, ◌≤◌, IfSome, length, true};
+ghost use Rattle.std.specs.Prelude.{◌≡◌, ◌<◌, ◌≤◌, ◌&&◌, nat_le, IfSome, length, true};
 ghost use Rattle.std.specs.Option.{option_map};
 ghost use Rattle.jser_anywhere.specs.Names.{core, ends_in_brackets, ends_in_semicolon, inside, is_part, is_plain, peeled};
 
@@ -65,13 +65,15 @@ fn ends_in_semicolon(units: &[u16]) -> bool
 }
 
 /// Whether the units are parts of a name, with a `.` between two of them.
-#[tactic(auto, using(crate::proofs::CoreLemmas::plain_begins, crate::proofs::CoreLemmas::plain_dot, crate::proofs::CoreLemmas::plain_part, crate::proofs::CoreLemmas::plain_twice, crate::proofs::CoreLemmas::plain_other, crate::proofs::CoreLemmas::plain_ends))]
+#[tactic(auto, using(crate::proofs::CoreLemmas::plain_begins, crate::proofs::CoreLemmas::plain_small, crate::proofs::CoreLemmas::plain_dot, crate::proofs::CoreLemmas::plain_part, crate::proofs::CoreLemmas::plain_twice, crate::proofs::CoreLemmas::plain_other, crate::proofs::CoreLemmas::plain_ends))]
 fn is_plain(units: &[u16]) -> bool
     ensures { result ≡ is_plain units.now }
 {
     let mut wants = true;
     'units: for unit in units {
-        if *unit == 0x2E {
+        if is_small(*unit) {
+            wants = false;
+        } else if *unit == 0x2E {
             if wants {
                 return false;
             }
@@ -83,6 +85,14 @@ fn is_plain(units: &[u16]) -> bool
         }
     }
     !wants
+}
+
+/// Whether the unit is a small letter of ASCII, as most of a name are.
+#[inline(always)]
+fn is_small(unit: u16) -> bool
+    ensures { result ≡ (nat_le 0x61 unit && nat_le unit 0x7A) }
+{
+    unit >= 0x61 && unit <= 0x7A
 }
 
 /// Whether the unit is a letter, a digit, `_`, `$`, `-`, or one from 0080 on.

@@ -88,7 +88,7 @@ fn first_set(mask: u64) -> usize
 }
 
 /// How far the bytes of a piece from `from` on are letters of a name that have one byte each, of so many at most.
-#[tactic(auto, using(crate::proofs::ReadLemmas::text_none, crate::proofs::ReadLemmas::text_more))]
+#[tactic(auto, using(crate::proofs::ReadLemmas::text_none, crate::proofs::ReadLemmas::text_joined, crate::proofs::ReadLemmas::text_front))]
 #[inline(always)]
 pub(crate) fn text_until(piece: &[u8], from: usize, most: usize) -> usize
     requires { from ≤ length piece.now }
@@ -96,10 +96,43 @@ pub(crate) fn text_until(piece: &[u8], from: usize, most: usize) -> usize
     ensures few { result - from ≤ most }
 {
     let end = from + most.min(piece.len() - from);
-    'bytes: for at in from..end {
-        if piece[at] < 0x24 || piece[at] > 0x7F {
+    let mut at = from;
+    'loads: while piece.len() - at >= LANES {
+        let run = letters_run(piece, at);
+        if end - at <= run {
+            return end;
+        }
+        at += run;
+        if run < LANES {
             return at;
         }
     }
+    text_until_each(piece, from, at, end)
+}
+
+/// How far the bytes of a piece from `at` on are letters, found byte by byte as far as `end`; those from `from` on are.
+#[tactic(auto, using(crate::proofs::ReadLemmas::text_more))]
+fn text_until_each(piece: &[u8], from: usize, at: usize, end: usize) -> usize
+    requires text { IsText piece.now from at }
+    requires end { (at ≤ end) × (end ≤ length piece.now) }
+    ensures text { IsText piece.now from result }
+    ensures few { result ≤ end }
+{
+    'bytes: for here in at..end {
+        if piece[here] < 0x24 || piece[here] > 0x7F {
+            return here;
+        }
+    }
     end
+}
+
+/// How many bytes of the load at this place come before the first that is no letter of a name, or only part of one.
+#[inline(always)]
+fn letters_run(piece: &[u8], at: usize) -> usize
+    requires { at + LANES ≤ length piece.now }
+    ensures within { result ≤ LANES }
+    ensures text { IsText piece.now at (at + result) }
+{
+    let others = (u8x16::from_slice(&piece[at..]) - u8x16::splat(0x24)).simd_ge(u8x16::splat(0x5C));
+    first_set(others.to_bitmask())
 }

@@ -1,7 +1,7 @@
 //! The scan in pieces: it keeps the last six bytes, and the units of the texts that may be names.
 ghost use Rattle.std.specs.Prelude.{◌≡◌, ◌≤◌, ◌-◌, ◌+◌, ◌++◌, true, false, [], ◌∷◌, Bool, List, ℕ, Some, None, length};
 ghost use Rattle.jser_anywhere.specs.Slots.{lower};
-ghost use Rattle.jser_anywhere.specs.Steps.{HasRoom, NameFits, RowFits, gone_on, keeping, kept_with, name_after, name_hidden, name_left, name_taken, name_with, noted, noted_hidden, or_taken, past, read_past, reading, row_after, row_hidden, row_taken, row_with, scan_after, scan_hidden, taken_by};
+ghost use Rattle.jser_anywhere.specs.Steps.{HasRoom, NameFits, RowFits, gone_on, keeping, kept_with, name_after, name_hidden, name_left, name_taken, name_with, noted, noted_hidden, or_taken, past, read_past, reading, row_after, row_hidden, row_taken, row_with, scan_after, scan_hidden, taken_by, with_row};
 ghost use Rattle.jser_anywhere.specs.Scans.{HasScanned, Hurries, TakesBytes};
 
 use crate::hidden::{Hidden, Judge};
@@ -162,8 +162,20 @@ impl Scan {
     }
 
     /// One byte more: the place of the hidden name that ends with it, the least one if more than one do.
-    #[tactic(auto, using(crate::proofs::StepLemmas::went_on, crate::proofs::StepLemmas::was_hidden))]
     fn byte<J: Judge>(&mut self, judge: &J, byte: u8) -> Option<u64>
+        ensures hidden { HasRoom self.old → result ≡ scan_hidden (J.passes judge.now) self.old byte }
+        ensures goes_on { HasRoom self.old → result ≡ None → self.new ≡ scan_after self.old byte }
+    {
+        if self.even.is_none() && self.odd.is_none() {
+            return self.byte_outside_rows(judge, byte);
+        }
+        self.byte_of_rows(judge, byte)
+    }
+
+    /// One byte more, where a row is being read.
+    #[tactic(auto, using(crate::proofs::StepLemmas::went_on, crate::proofs::StepLemmas::was_hidden))]
+    #[inline(never)]
+    fn byte_of_rows<J: Judge>(&mut self, judge: &J, byte: u8) -> Option<u64>
         ensures hidden { HasRoom self.old → result ≡ scan_hidden (J.passes judge.now) self.old byte }
         ensures goes_on { HasRoom self.old → result ≡ None → self.new ≡ scan_after self.old byte }
     {
@@ -173,6 +185,73 @@ impl Scan {
             self.go_on(byte);
         }
         place
+    }
+
+    /// One byte more, where no row is being read: what is asked and kept is the descriptor's name alone.
+    #[tactic(auto, using(crate::proofs::StepLemmas::went_on, crate::proofs::StepLemmas::hidden_outside_rows))]
+    #[inline(always)]
+    fn byte_outside_rows<J: Judge>(&mut self, judge: &J, byte: u8) -> Option<u64>
+        requires even { self.old.even ≡ None }
+        requires odd { self.old.odd ≡ None }
+        ensures hidden { HasRoom self.old → result ≡ scan_hidden (J.passes judge.now) self.old byte }
+        ensures goes_on { HasRoom self.old → result ≡ None → self.new ≡ scan_after self.old byte }
+    {
+        self.note_outside_rows(byte);
+        let place = name_hidden(self.name, self.kept.as_slice(), judge);
+        if place.is_none() {
+            self.go_on_outside_rows(byte);
+        }
+        place
+    }
+
+    /// The descriptor's name takes the byte, where no row is being read.
+    #[tactic(auto, using(crate::proofs::StepLemmas::noted_outside_rows))]
+    #[inline(always)]
+    fn note_outside_rows(&mut self, byte: u8)
+        requires even { self.old.even ≡ None }
+        requires odd { self.old.odd ≡ None }
+        ensures noted { HasRoom self.old → self.new ≡ noted self.old byte }
+        ensures even { self.new.even ≡ None }
+        ensures odd { self.new.odd ≡ None }
+    {
+        let taken = name_taken(self.name, byte);
+        self.keep(taken);
+        self.name = name_with(self.name, byte);
+    }
+
+    /// After a byte that ended no hidden name, where no row was being read.
+    #[inline(always)]
+    fn go_on_outside_rows(&mut self, byte: u8)
+        requires even { self.old.even ≡ None }
+        requires odd { self.old.odd ≡ None }
+        ensures { self.new ≡ gone_on self.old byte }
+    {
+        self.name = self.name_after(byte);
+        if let Some(begun) = self.recent.row_left(byte) {
+            self.begin_row(begun);
+        }
+        self.recent = self.recent.with_byte(byte);
+        self.count = self.count.saturating_add(1);
+    }
+
+    /// A row begins whose first text comes next.
+    #[inline(never)]
+    fn begin_row(&mut self, begun: Begun)
+        requires even { self.old.even ≡ None }
+        requires odd { self.old.odd ≡ None }
+        ensures { self.new ≡ with_row self.old begun }
+    {
+        let place = self.count.saturating_sub(6);
+        let row = Some(Row {
+            place,
+            more: begun.more,
+            at: RowAt::Text(Text::new(self.kept.len(), begun.left)),
+        });
+        if place % 2 == 0 {
+            self.even = row;
+        } else {
+            self.odd = row;
+        }
     }
 
     /// The texts that are being read take the byte.
@@ -197,7 +276,9 @@ impl Scan {
 
     /// Keeps the unit; lets go of all where no text may be a name.
     fn keep(&mut self, taken: Taken)
-        ensures { length self.old.kept ≤ 9216 → self.new ≡ keeping self.old (kept_with self.old.kept taken) }
+        ensures kept { length self.old.kept ≤ 9216 → self.new ≡ keeping self.old (kept_with self.old.kept taken) }
+        ensures even { self.new.even ≡ self.old.even }
+        ensures odd { self.new.odd ≡ self.old.odd }
     {
         match taken {
             Taken::Unit(unit) => {
