@@ -36,7 +36,7 @@ lowest_alone (Some place) = refl
 
 -- the scan with another descriptor's name that is being read
 abbrev renamed : Scanning → Option Name → Scanning
-renamed s name = record { count = s.count; recent = s.recent; kept = s.kept; name = name; even = s.even; odd = s.odd }
+renamed s name = record s { name = name }
 
 -- the descriptor's name alone takes the byte
 pub noted_outside_rows : (old first : Scanning) (byte : ℕ) (t : Taken) → old.even ≡ None → old.odd ≡ None → (NameFits old.name → t ≡ name_taken old.name byte)
@@ -51,7 +51,7 @@ noted_outside_rows old first byte t even odd is kept_is name named room =
     let kept : List ℕ = kept_with old.kept (taken_by old byte) in
     ap (λ (s : Scanning). renamed s name) first_is
     ∙ ap (λ (n : Option Name). renamed (keeping old kept) n) name_is
-    ∙ ap (λ (r : Option Row). record { count = old.count; recent = old.recent; kept = kept; name = name_with old.name byte; even = r; odd = old.odd }) (even ∙ ap (λ r. row_with r byte) (sym even))
+    ∙ ap (λ (r : Option Row). record old { kept = kept; name = name_with old.name byte; even = r }) (even ∙ ap (λ r. row_with r byte) (sym even))
     ∙ ap (λ (r : Option Row). record { count = old.count; recent = old.recent; kept = kept; name = name_with old.name byte; even = row_with old.even byte; odd = r }) (odd ∙ ap (λ r. row_with r byte) (sym odd))
 
 -- and is asked

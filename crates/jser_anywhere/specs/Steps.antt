@@ -194,18 +194,11 @@ kept_with kept (taken.Part here) = kept
 kept_with kept taken.Refused = []
 
 abbrev pub keeping : Scanning → List ℕ → Scanning
-keeping scan kept = record { count = scan.count; recent = scan.recent; kept = kept; name = scan.name; even = scan.even; odd = scan.odd }
+keeping scan kept = record scan { kept = kept }
 
 -- the texts have taken the byte, and their units are kept
 abbrev pub reading : Scanning → ℕ → Scanning
-reading scan byte = record {
-  count = scan.count;
-  recent = scan.recent;
-  kept = scan.kept;
-  name = name_with scan.name byte;
-  even = row_with scan.even byte;
-  odd = row_with scan.odd byte;
-}
+reading scan byte = record scan { name = name_with scan.name byte; even = row_with scan.even byte; odd = row_with scan.odd byte }
 
 abbrev pub noted : Scanning → ℕ → Scanning
 noted scan byte = reading (keeping scan (kept_with scan.kept (taken_by scan byte))) byte
@@ -234,14 +227,7 @@ scan_after scan byte = gone_on (noted scan byte) byte
 
 -- a row begins whose first text comes next, where none is being read
 abbrev pub with_row : Scanning → Begun → Scanning
-with_row scan begun = record {
-  count = scan.count;
-  recent = scan.recent;
-  kept = scan.kept;
-  name = scan.name;
-  even = row_begins (is_even (scan.count - 6)) (scan.count - 6) (length scan.kept) (Some begun);
-  odd = row_begins (is_odd (scan.count - 6)) (scan.count - 6) (length scan.kept) (Some begun);
-}
+with_row scan begun = record scan { even = row_begins (is_even (scan.count - 6)) (scan.count - 6) (length scan.kept) (Some begun); odd = row_begins (is_odd (scan.count - 6)) (scan.count - 6) (length scan.kept) (Some begun) }
 
 -- ---- there is room for the next byte, and the groups that are being read are begun as groups can be
 
@@ -298,7 +284,7 @@ recent_in piece to = record {
 -- past them, where no name is being read
 abbrev pub past : Scanning → (piece : List ℕ) → (from to : ℕ) → Scanning
 past scan piece from to =
-    record { count = min (scan.count + (to - from)) 0xFFFFFFFFFFFFFFFF; recent = recent_in piece to; kept = []; name = scan.name; even = scan.even; odd = scan.odd }
+    record scan { count = min (scan.count + (to - from)) 0xFFFFFFFFFFFFFFFF; recent = recent_in piece to; kept = [] }
 
 -- ---- bytes of the descriptor's name that is being read
 
