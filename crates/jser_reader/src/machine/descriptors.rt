@@ -23,6 +23,7 @@ impl Machine {
     /// Puts the descriptor with this number on the stack, and then a layer in which nothing is yet: where memory runs
     /// out between the two, there is no layer without its frame.
     #[tactic(auto, using(crate::proofs::DescriptorLemmas::fits_opened, crate::proofs::LayerLemmas::frame_opened, crate::proofs::LayerLemmas::layer_opened, crate::proofs::DescriptorLemmas::opens_nothing, crate::proofs::DescriptorLemmas::opens))]
+    #[inline(always)]
     fn push_descriptor(&mut self, role: Role, number: u32) -> Flow
         requires { CanOpen self.old.table.entries self.old.table.chains number self.old.frames }
         ensures { Opens role number result self.old self.new }
@@ -44,6 +45,7 @@ impl Machine {
 
     /// A new descriptor, which is read in this role: its handle is assigned.
     #[tactic(auto, using(crate::proofs::DescriptorLemmas::can_open, crate::proofs::DescriptorLemmas::not_new, crate::proofs::DescriptorLemmas::opens_new))]
+    #[inline(always)]
     pub(super) fn new_descriptor(&mut self, role: Role) -> Flow
         ensures { OpensNew role result self.old self.new }
     {
@@ -56,6 +58,7 @@ impl Machine {
 
     /// The suid of a plain descriptor: its handle is assigned there, and its flags come next.
     #[tactic(auto, using(crate::proofs::DescriptorLemmas::no_descriptor, crate::proofs::DescriptorLemmas::suid_goes))]
+    #[inline(always)]
     pub(super) fn suid(&mut self) -> Flow
         ensures { Tells (told_if (is_full self.old) handle_space None) (after_suid self.old) result self.old self.new }
     {

@@ -30,6 +30,7 @@ fn is_array(kind: LayerKind) -> bool
 impl Machine {
     /// Why the gate does not let the name pass that has been read, if it does not.
     #[tactic(auto, using(crate::proofs::NameLemmas::passes, crate::proofs::NameLemmas::rejected_name, crate::proofs::NameLemmas::unmatched_name))]
+    #[inline(always)]
     fn judged<G: Gate>(&self, gate: &G) -> Option<Reason>
         requires { name_kind self.now.name ≢ malformed_name }
         ensures { result ≡ option_map named (checked_reason (G.told gate.now) self.now.name) }
@@ -44,6 +45,7 @@ impl Machine {
     /// Whether a class of this kind may not be the class of the owner that the descriptor is read for: an object's is
     /// no array, and an array's is one.
     #[tactic(auto, using(crate::proofs::NameLemmas::wrong_object, crate::proofs::NameLemmas::wrong_array, crate::proofs::NameLemmas::right_value, crate::proofs::NameLemmas::right_enum, crate::proofs::NameLemmas::right_class, crate::proofs::NameLemmas::right_super))]
+    #[inline(always)]
     fn is_wrong_kind(&self, kind: LayerKind) -> bool
         ensures { result ≡ is_wrong_name (head_role self.now) (name_kind_of kind) }
     {
@@ -59,6 +61,7 @@ impl Machine {
 
     /// What the class is whose name has been read, or the first thing that is wrong with the name.
     #[tactic(auto, using(crate::proofs::NameLemmas::malformed_class, crate::proofs::NameLemmas::wrong_class_name, crate::proofs::NameLemmas::judged_class, crate::proofs::NameLemmas::right_class_name, crate::proofs::NameLemmas::well_formed))]
+    #[inline(always)]
     fn class_kind<G: Gate>(&self, gate: &G) -> Result<LayerKind, Reason>
         ensures { IsKindOf result (class_name_reason (G.told gate.now) (head_role self.now) self.now.name) self.now.name }
     {
@@ -76,6 +79,7 @@ impl Machine {
 
     /// The name of a class has ended. If it may stand there, the suid comes next.
     #[tactic(auto, using(crate::proofs::NameLemmas::class_refused, crate::proofs::NameLemmas::class_named))]
+    #[inline(always)]
     pub(super) fn class_name<G: Gate>(&mut self, gate: &G) -> Flow
         ensures { TellsSurely (class_name_reason (G.told gate.now) (head_role self.old) self.old.name) (named_state self.old self.old.name) result self.old self.new }
     {

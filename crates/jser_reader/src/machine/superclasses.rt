@@ -57,6 +57,7 @@ impl Machine {
 
     /// NULL in a superclass place, a class with no superclass.
     #[tactic(auto, using(crate::proofs::SuperTagLemmas::null_fails, crate::proofs::SuperTagLemmas::null_closes))]
+    #[inline(always)]
     fn null_super(&mut self) -> Flow
         ensures { HasDescriptor self.old.frames → Tells (super_reason self.old TC_NULL) (after_super_tag self.old (tag_from TC_NULL)) result self.old self.new }
     {
@@ -103,6 +104,7 @@ impl Machine {
 
     /// A value's tag in a superclass place.
     #[tactic(auto, using(crate::proofs::SuperTagLemmas::no_super_value))]
+    #[inline(always)]
     fn super_value(&mut self, tag: ValueTag) -> Flow
         ensures { HasDescriptor self.old.frames → Tells (super_reason self.old (tag_byte (view_tag tag))) (after_super_tag self.old (tag_from (tag_byte (view_tag tag)))) result self.old self.new }
     {
@@ -122,6 +124,7 @@ impl Machine {
 
     /// A tag in a superclass place.
     #[tactic(auto, using(crate::proofs::SuperTagLemmas::no_super_tag, crate::proofs::SuperTagLemmas::super_value_tag, crate::proofs::SuperTagLemmas::super_block, crate::proofs::SuperTagLemmas::super_other))]
+    #[inline(always)]
     pub(super) fn super_tag(&mut self, byte: u8) -> Flow
         ensures { HasDescriptor self.old.frames → Tells (super_reason self.old byte) (after_super_tag self.old (tag_from byte)) result self.old self.new }
     {

@@ -28,6 +28,7 @@ enum Closing {
 impl Machine {
     /// Takes the layer of the innermost open descriptor, and puts that of the next one in its place.
     #[tactic(auto, using(crate::proofs::CloseLemmas::next_layer, crate::proofs::CloseLemmas::last_layer, crate::proofs::LayerLemmas::layer_taken, crate::proofs::LayerLemmas::no_layers))]
+    #[inline(always)]
     fn pop_layer(&mut self) -> KeptLayer
         ensures layer { result ≡ head_layer self.old.layers }
         ensures rest { PopsLayer self.old self.new }
@@ -41,6 +42,7 @@ impl Machine {
 
     /// Closes the descriptor on top, which has this number, and takes it off.
     #[tactic(auto, using(crate::proofs::CloseLemmas::is_open))]
+    #[inline(always)]
     fn close_top(&mut self, number: u32, role: Role, parent: Option<u32>)
         requires top { self.old.frames ≡ Frame.Descriptor number role ∷ tail_of self.old.frames }
         requires parent { ForSome parent (λ p. IsTrue (is_closed (slice_get self.old.table.entries p))) }
@@ -54,6 +56,7 @@ impl Machine {
 
     /// The class with this number has been read: its owner's handle is assigned.
     #[tactic(auto, using(crate::proofs::SuperLemmas::owner_found, crate::proofs::SuperLemmas::not_there, crate::proofs::SuperLemmas::not_class, crate::proofs::SuperLemmas::not_open))]
+    #[inline(always)]
     fn owner_of(&mut self, number: u32, owner: Owner) -> Flow
         requires closed { IsTrue (is_closed (slice_get self.old.table.entries number)) }
         ensures { Tells (told_if (is_full self.old) handle_space None) (made_state self.old owner (chain_at self.old.table.entries number)) result self.old self.new }
@@ -69,6 +72,7 @@ impl Machine {
 
     /// Closes the descriptor on top, and begins what waited for it, if that is not the descriptor round it.
     #[tactic(auto, using(crate::proofs::SuperLemmas::value_closed, crate::proofs::SuperLemmas::owner_closed, crate::proofs::SuperLemmas::super_closed, crate::proofs::SuperLemmas::entry_closed))]
+    #[inline(always)]
     fn close_one(&mut self, number: u32, role: Role, parent: Option<u32>) -> Closing
         requires top { self.old.frames ≡ Frame.Descriptor number role ∷ tail_of self.old.frames }
         requires parent { ForSome parent (λ p. IsTrue (is_closed (slice_get self.old.table.entries p))) }
@@ -85,6 +89,7 @@ impl Machine {
     /// The superclass place of the descriptor on top has ended, with this class in it, or with NULL: the descriptor is
     /// closed, and those round it whose superclass it is; and what waited for them goes on.
     #[tactic(auto, using(crate::proofs::SuperLemmas::closes_last, crate::proofs::SuperLemmas::closes_more, crate::proofs::SuperLemmas::closes_shorter, crate::proofs::SuperLemmas::closes_open, crate::proofs::SuperLemmas::closing_starts, crate::proofs::SuperLemmas::none_open, crate::proofs::SuperLemmas::other_open))]
+    #[inline(always)]
     pub(super) fn close(&mut self, parent: Option<u32>) -> Flow
         requires { ForSome parent (λ p. IsTrue (is_closed (slice_get self.old.table.entries p))) }
         ensures { Tells (closing_reason self.old) (closed_state self.old parent) result self.old self.new }

@@ -89,6 +89,7 @@ impl Machine {
 
     /// `TC_ENDBLOCKDATA`: the annotation on top has ended.
     #[tactic(auto, using(crate::proofs::TagLemmas::descriptor_ends, crate::proofs::TagLemmas::external_ends, crate::proofs::TagLemmas::section_ends, crate::proofs::TagLemmas::sections_end, crate::proofs::PartLemmas::fits_tail, crate::proofs::LayerLemmas::other_is_part, crate::proofs::LayerLemmas::layers_of_tail))]
+    #[inline(always)]
     fn end_notes(&mut self) -> Flow
         ensures end { HasNotes self.old.frames → Comes self.old self.new (after_end self.old) }
         ensures result { result ≡ Flow.On }
