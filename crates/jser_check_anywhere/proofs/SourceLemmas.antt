@@ -185,7 +185,8 @@ hidden_more filter options front rest bytes from to split h =
       sooner = no_fault_more filter options front rest bytes to split (hidden_within passes front from to h.first.hidden) h.sooner;
     }
 
-fault_of : (filter : FilterView) (options : Options) (before last rest bytes : List ℕ) (why : AnywhereFault) → bytes ≡ (before ++ last) ++ rest → TellsFault filter options before last why → FaultOf filter options bytes why
+-- what stops a check of some bytes stops that of all bytes that begin with them, too
+pub fault_of : (filter : FilterView) (options : Options) (before last rest bytes : List ℕ) (why : AnywhereFault) → bytes ≡ (before ++ last) ++ rest → TellsFault filter options before last why → FaultOf filter options bytes why
 fault_of filter options before last rest bytes (fault.Stop (stop.Refused refusal)) split t = refused_more filter options (before ++ last) rest bytes before last refusal refl split t.0 t.1
 fault_of filter options before last rest bytes (fault.Stop stop.OutOfMemory) split t = tt
 fault_of filter options before last rest bytes (fault.Stop stop.Spent) split t = t

@@ -8,6 +8,7 @@ use Rattle.jser_reader.specs.ReaderStates.{FinishTells, Reading, SkipTells, Stan
 use Rattle.jser_reader.proofs.RefusalLemmas.{front_refused}
 use Rattle.jser_check.specs.Admitted.{FilterWith, gate_of_filter}
 use Rattle.jser_check.proofs.AnswerLemmas.{reports, right_refuses}
+use Rattle.jser_check_anywhere.proofs.SourceLemmas.{fault_of}
 use Rattle.jser_check_anywhere.specs.Answers.{Checking, EndTells, FeedTells}
 use Rattle.jser_check_anywhere.specs.SourceAnswers.{FaultOf, HiddenIn}
 use Rattle.jser_check_anywhere.specs.declared.AnywhereFault.{AnywhereFault}
@@ -22,7 +23,6 @@ use Rattle.jser_scan.specs.NamePlaces.{NameStands}
 use Rattle.jser_records.specs.declared.judge.Check.{Check}
 use Rattle.jser_records.specs.declared.judge.Check.TheVariants as check
 use Rattle.jser_records.specs.Judged.{Ends, FaultIf, Feeds, HasJudged, IsDecided, IsRead, IsSound, PlainFault, ReportsIf, Took, filter_in}
-use Rattle.jser_records.proofs.SoonerLemmas.{fault_of}
 
 -- ---- under the filter alone
 

@@ -6,7 +6,6 @@ pub mod LineLemmas
 pub mod ReadingLemmas
 pub mod RecordLemmas
 pub mod RoomLemmas
-pub mod SoonerLemmas
 pub mod SpareLemmas
 pub mod TextLemmas
 pub mod ToldLemmas
