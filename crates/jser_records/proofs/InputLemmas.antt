@@ -1,5 +1,5 @@
 -- What is written of all records of an input.
-use Rattle.std.proofs.Common.{◌≡◌, ◌≢◌, ◌⊎◌, ℕ, Bool, true, false, List, [], ◌++◌, Option, Some, None, Result, Ok, Err, inl, inr, refl, sym, ap, subst, ◌∙◌, append-nil}
+use Rattle.std.proofs.Common.{◌≡◌, ◌≢◌, ◌⊎◌, ℕ, ◌<◌, Bool, true, false, List, [], ◌++◌, Option, Some, None, Result, Ok, Err, inl, inr, refl, sym, ap, subst, ◌∙◌, append-nil}
 use Rattle.std.specs.Prelude.{IfOk, MatchResult, OnOk, option_map}
 use Rattle.std.specs.Io.KnownBytes.{Appends}
 use Rattle.jser_prim.specs.Outgoing.{Outgoing, SinkState, Puts}
@@ -16,35 +16,27 @@ use Rattle.jser_records.specs.declared.layout.Shape.TheVariants as shape
 use Rattle.jser_records.specs.declared.run.Asked.{Asked}
 use Rattle.jser_records.specs.declared.run.Trouble.{Trouble}
 use Rattle.jser_records.specs.Arriving.{Arriving, IsOver, ahead}
-use Rattle.jser_records.specs.Records.{RecordsBy, RecordsFront, RecordsGo}
-use Rattle.jser_records.specs.Inputs.{AreAll, AreOf, IsFine, Reads, Written, Wrote}
-use Rattle.jser_records.specs.Told.{Event, Goes, Quiet, SaysAll, all_counted, all_put}
+use Rattle.jser_records.specs.Records.{AllSizedBy, AreRecords, RecordsBy, RecordsFront, RecordsGo}
+use Rattle.jser_records.specs.Sized.{At, at_line, at_loss}
+use Rattle.jser_records.specs.Held.{Terms, terms_of}
+use Rattle.jser_records.specs.Inputs.{AreAll, IsFine, Reads, Written, Wrote, terms_in}
+use Rattle.jser_records.specs.Told.{Event, Quiet, SaysAll, all_counted, all_put}
+use Rattle.jser_records.proofs.LossLemmas.{records_lost, status_unread}
 use Rattle.jser_records.proofs.RoomLemmas.{ahead_over}
 use Rattle.jser_records.proofs.ToldLemmas.{says_all}
 
 -- ---- the records of an input
 
 -- it may be said of less
-all_less : (layout : Shape) (rules : Rules) (most : ℕ) (input : Option (List ℕ)) (events : List Event) (whole other : Type 0) → (other → whole)
-    → AreAll layout rules most input events whole → AreAll layout rules most input events other
-all_less layout rules most None events whole other so are = tt
-all_less layout rules most (Some bytes) events whole other so (rest, are, ends) = (rest, are, λ w. ends (so w))
-
-less_whole : (layout : Shape) (rules : Rules) (most : ℕ) (input : Option (List ℕ)) (events : List Event) (whole other : Type 0) → (other → whole)
-    → AreOf layout rules most input events whole → AreOf layout rules most input events other
-less_whole (shape.Lines lines) rules most input events whole other so are = all_less (shape.Lines lines) rules most input events whole other so are
-less_whole shape.Frames rules most input events whole other so are = all_less shape.Frames rules most input events whole other so are
-less_whole shape.Sized rules most input events whole other so are = tt
+less_whole : (layout : Shape) (terms : Terms) (input : Option (List ℕ)) (events : List Event) (whole other : At → Type 0)
+    → ((bytes rest : List ℕ) (to : At) → AreRecords layout terms at_line bytes events to rest → other to → whole to) → AreAll layout terms input events whole → AreAll layout terms input events other
+less_whole layout terms None events whole other so are = tt
+less_whole layout terms (Some bytes) events whole other so (to, rest, are, ends) = (to, rest, are, λ w. ends (so bytes rest to are w))
 
 -- before anything was read
-all_none : (layout : Shape) (rules : Rules) (most : ℕ) (input : Option (List ℕ)) (whole : Type 0) → (whole → ⊥) → AreAll layout rules most input [] whole
-all_none layout rules most None whole not = tt
-all_none layout rules most (Some bytes) whole not = (bytes, refl, λ w. absurd (not w))
-
-none_so_far : (layout : Shape) (rules : Rules) (most : ℕ) (input : Option (List ℕ)) (whole : Type 0) → (whole → ⊥) → AreOf layout rules most input [] whole
-none_so_far (shape.Lines lines) rules most input whole not = all_none (shape.Lines lines) rules most input whole not
-none_so_far shape.Frames rules most input whole not = all_none shape.Frames rules most input whole not
-none_so_far shape.Sized rules most input whole not = tt
+none_so_far : (layout : Shape) (terms : Terms) (input : Option (List ℕ)) (whole : At → Type 0) → (whole at_line → ⊥) → AreAll layout terms input [] whole
+none_so_far layout terms None whole not = tt
+none_so_far layout terms (Some bytes) whole not = (at_line, bytes, (refl, refl), λ w. absurd (not w))
 
 -- nothing waits so far
 pub from_start : (to_come : Option (List ℕ)) → option_map (λ xs. [] ++ xs) to_come ≡ to_come
@@ -53,33 +45,46 @@ from_start (Some xs) = refl
 
 -- ---- one shape
 
-all_gone : (layout : Shape) (old new : Clerk) (from now : Arriving) (p q s t : SinkState) (whole : Type 0) (input : Option (List ℕ)) → ahead from ≡ input
-    → (f : RecordsGo layout old new from now p q s t) → IsOver now → AreAll layout old.current.reading.judge.rules old.current.reading.most input f.events whole
-all_gone layout old new from now p q s t whole None is f over = tt
-all_gone layout old new from now p q s t whole (Some bytes) is f over = let x = f.are bytes is in (x.0, x.2, λ w. ahead_over now x.0 over x.1)
+all_gone : (layout : Shape) (to : At) (old new : Clerk) (from now : Arriving) (p q s t : SinkState) (whole : At → Type 0) (input : Option (List ℕ)) → ahead from ≡ input
+    → (f : RecordsGo layout at_line to old new from now p q s t) → (whole to → IsOver now) → AreAll layout (terms_of old.current) input f.events whole
+all_gone layout to old new from now p q s t whole None is f over = tt
+all_gone layout to old new from now p q s t whole (Some bytes) is f over = let x = f.are bytes is in (to, x.0, x.2, λ w. ahead_over now x.0 (over w) x.1)
 
-all_front : (layout : Shape) (old new : Clerk) (from : Arriving) (p q s t : SinkState) (whole : Type 0) (input : Option (List ℕ)) → ahead from ≡ input
-    → (f : RecordsFront layout old new from p q s t) → (whole → ⊥) → AreAll layout old.current.reading.judge.rules old.current.reading.most input f.events whole
+all_front : (layout : Shape) (old new : Clerk) (from : Arriving) (p q s t : SinkState) (whole : At → Type 0) (input : Option (List ℕ)) → ahead from ≡ input
+    → (f : RecordsFront layout at_line old new from p q s t) → ((to : At) → whole to → ⊥) → AreAll layout (terms_of old.current) input f.events whole
 all_front layout old new from p q s t whole None is f not = tt
-all_front layout old new from p q s t whole (Some bytes) is f not = let x = f.are bytes is in (x.0, x.1, λ w. absurd (not w))
+all_front layout old new from p q s t whole (Some bytes) is f not = let x = f.are bytes is in (x.0, x.1, x.2, λ w. absurd (not x.0 w))
+
+pub reads_front : (layout : Shape) (old new : Clerk) (from : Arriving) (p q s t : SinkState) → RecordsFront layout at_line old new from p q s t → Reads layout old new (ahead from) p q s t ⊥
+reads_front layout old new from p q s t f =
+    record { events = f.events; says = f.says; are = all_front layout old new from p q s t (λ to. ⊥ × (to ≢ at_loss)) (ahead from) refl f (λ to w. w.0) }
+
+reads_by : (layout : Shape) (result : Result (Unit {0}) Trouble) (old new : Clerk) (from now : Arriving) (p q s t : SinkState)
+    → RecordsBy result layout old new from now p q s t → OnOk result (IsOver now) → Reads layout old new (ahead from) p q s t (IsFine result)
+reads_by layout (Ok x) old new from now p q s t f over =
+    record { events = f.events; says = f.says; are = all_gone layout at_line old new from now p q s t (λ to. Unit {0} × (to ≢ at_loss)) (ahead from) refl f (λ w. over) }
+reads_by layout (Err trouble) old new from now p q s t f over = reads_front layout old new from p q s t f
 
 pub reads_frames : (result : Result (Unit {0}) Trouble) (old new : Clerk) (from now : Arriving) (p q s t : SinkState) → RecordsBy result shape.Frames old new from now p q s t
     → OnOk result (IsOver now) → Reads shape.Frames old new (ahead from) p q s t (IsFine result)
-reads_frames (Ok x) old new from now p q s t f over =
-    record { events = f.events; says = f.says; are = all_gone shape.Frames old new from now p q s t (Unit {0}) (ahead from) refl f over }
-reads_frames (Err trouble) old new from now p q s t f over =
-    record { events = f.events; says = f.says; are = all_front shape.Frames old new from p q s t ⊥ (ahead from) refl f (λ w. w) }
+reads_frames result old new from now p q s t f over = reads_by shape.Frames result old new from now p q s t f over
 
 pub reads_lines : (lines : Lines) (result : Result (Unit {0}) Trouble) (old new : Clerk) (from now : Arriving) (p q s t : SinkState)
     → RecordsBy result (shape.Lines lines) old new from now p q s t → OnOk result (IsOver now) → Reads (shape.Lines lines) old new (ahead from) p q s t (IsFine result)
-reads_lines lines (Ok x) old new from now p q s t f over =
-    record { events = f.events; says = f.says; are = all_gone (shape.Lines lines) old new from now p q s t (Unit {0}) (ahead from) refl f over }
-reads_lines lines (Err trouble) old new from now p q s t f over =
-    record { events = f.events; says = f.says; are = all_front (shape.Lines lines) old new from p q s t ⊥ (ahead from) refl f (λ w. w) }
+reads_lines lines result old new from now p q s t f over = reads_by (shape.Lines lines) result old new from now p q s t f over
 
-pub reads_sized : {X : Type 0} → (result : Result X Trouble) (old new : Clerk) (input : Option (List ℕ)) (p q s t : SinkState) → Goes old new p q s t
-    → Reads shape.Sized old new input p q s t (IsFine result)
-reads_sized result old new input p q s t goes = record { events = goes.events; says = goes.says; are = tt }
+over_if : (to : At) (now : Arriving) → (to ≡ at_loss) ⊎ IsOver now → to ≢ at_loss → IsOver now
+over_if to now (inl is) not = absurd (not is)
+over_if to now (inr over) not = over
+
+pub reads_sized : (result : Result (Unit {0}) Trouble) (old new : Clerk) (from now : Arriving) (p q s t : SinkState) → AllSizedBy result old new from now p q s t
+    → Reads shape.Sized old new (ahead from) p q s t (IsFine result)
+reads_sized (Ok x) old new from now p q s t (to, f, over) = record {
+  events = f.events;
+  says = f.says;
+  are = all_gone shape.Sized to old new from now p q s t (λ to. Unit {0} × (to ≢ at_loss)) (ahead from) refl f (λ w. over_if to now over w.1);
+}
+reads_sized (Err trouble) old new from now p q s t f = reads_front shape.Sized old new from p q s t f
 
 -- ---- all
 
@@ -89,7 +94,7 @@ pub reads_flushed : {X Y : Type 0} → (layout : Shape) (result : Result X Troub
 reads_flushed layout result last a b c input p q r s t u f g so = record {
   events = f.events;
   says = subst (λ es. SaysAll a c p r s u es) (append-nil f.events) (says_all a b c p q r s t u f.events [] f.says g.says);
-  are = less_whole layout a.current.reading.judge.rules a.current.reading.most input f.events (IsFine result) (IsFine last) so f.are;
+  are = less_whole layout (terms_of a.current) input f.events (λ to. IsFine result × (to ≢ at_loss)) (λ to. IsFine last × (to ≢ at_loss)) (λ bytes rest to are w. (so w.0, w.1)) f.are;
 }
 
 -- a sink that has not failed has no fault that an outbox met
@@ -110,10 +115,10 @@ tallies (Ok tally) now before events is counts none = is ∙ counts ∙ ap (λ z
 tallies (Err trouble) now before events is counts none = tt
 
 pub wrote : (asked : Asked) (rules : Rules) (input : Option (List ℕ)) (old new : Clerk) (p q s t : SinkState) (result : Result Tally Trouble) → old.how ≡ asked.how → old.passes ≡ asked.pass
-    → old.number ≡ 0 → old.tally ≡ no_files → old.output ≡ nothing → old.current.reading.judge.rules ≡ rules → old.current.reading.most ≡ asked.layout.most
+    → old.number ≡ 0 → old.tally ≡ no_files → old.output ≡ nothing → terms_of old.current ≡ terms_in asked rules
     → Reads asked.layout.shape old new input p q s t (IsFine result) → (new.output.failed ≡ false → new.output.waiting ≡ []) → IfOk result (λ tally. tally ≡ new.tally)
     → Wrote asked rules input p q result
-wrote asked rules input old new p q s t result is_how is_on zeroth none begins under limit reads empty tally = record {
+wrote asked rules input old new p q s t result is_how is_on zeroth none begins under reads empty tally = record {
   events = reads.events;
   put =
       λ fine.
@@ -122,15 +127,13 @@ wrote asked rules input old new p q s t result is_how is_on zeroth none begins u
       (subst (λ n. Appends p.gone_out q.gone_out (all_put old.how old.passes n reads.events [])) zeroth
       (put_all old.output new.output p q (λ k. all_put old.how old.passes old.number reads.events k) begins reads.says.output empty fine)));
   tally = tallies result new.tally old.tally reads.events tally reads.says.tally none;
-  are =
-      subst (λ r. AreOf asked.layout.shape r asked.layout.most input reads.events (IsFine result)) under
-      (subst (λ m. AreOf asked.layout.shape old.current.reading.judge.rules m input reads.events (IsFine result)) limit reads.are);
+  are = subst (λ t. AreAll asked.layout.shape t input reads.events (λ to. IsFine result × (to ≢ at_loss))) under reads.are;
 }
 
 -- nothing was read
 pub wrote_none : (asked : Asked) (rules : Rules) (input : Option (List ℕ)) (p : SinkState) (trouble : Trouble) → Wrote asked rules input p p (Err trouble)
 wrote_none asked rules input p trouble =
-    record { events = []; put = λ fine. appends_none p.gone_out; tally = tt; are = none_so_far asked.layout.shape rules asked.layout.most input ⊥ (λ w. w) }
+    record { events = []; put = λ fine. appends_none p.gone_out; tally = tt; are = none_so_far asked.layout.shape (terms_in asked rules) input (λ to. ⊥ × (to ≢ at_loss)) (λ w. w.0) }
 
 pub written_failed : (asked : Asked) (rules : Rules) (input : Option (List ℕ)) (p q : SinkState) (result : Result Tally Trouble) (status : ℕ) → Wrote asked rules input p q result → status ≡ 3
     → Written asked rules input p q status
@@ -138,7 +141,7 @@ written_failed asked rules input p q result status w is = record {
   events = w.events;
   put = w.put;
   status = inl is;
-  are = less_whole asked.layout.shape rules asked.layout.most input w.events (IsFine result) (status ≢ 3) (λ not. absurd (not is)) w.are;
+  are = less_whole asked.layout.shape (terms_in asked rules) input w.events (λ to. IsFine result × (to ≢ at_loss)) (λ to. status ≢ 3) (λ bytes rest to are not. absurd (not is)) w.are;
 }
 
 status_by : (result : Result Tally Trouble) (status : ℕ) (events : List Event) → IfOk result (λ tally. tally ≡ all_counted no_files events)
@@ -150,13 +153,23 @@ fine_by : (result : Result Tally Trouble) (status : ℕ) → MatchResult result 
 fine_by (Ok t) status is not = tt
 fine_by (Err trouble) status is not = not is
 
+lost_status : (status : ℕ) (events : List Event) → (status ≡ 3) ⊎ (status ≡ status_of (all_counted no_files events)) → 0 < (all_counted no_files events).unread → status ≡ 3
+lost_status status events (inl is) some = is
+lost_status status events (inr is) some = is ∙ status_unread (all_counted no_files events) some
+
 pub written_by : (asked : Asked) (rules : Rules) (input : Option (List ℕ)) (p q : SinkState) (result : Result Tally Trouble) (status : ℕ) → Wrote asked rules input p q result
     → MatchResult result (λ tally. status ≡ status_of tally) (λ trouble. status ≡ 3) → Written asked rules input p q status
 written_by asked rules input p q result status w is = record {
   events = w.events;
   put = w.put;
   status = status_by result status w.events w.tally is;
-  are = less_whole asked.layout.shape rules asked.layout.most input w.events (IsFine result) (status ≢ 3) (fine_by result status is) w.are;
+  are =
+      less_whole asked.layout.shape (terms_in asked rules) input w.events (λ to. IsFine result × (to ≢ at_loss)) (λ to. status ≢ 3)
+      (λ bytes rest to are not. (
+        fine_by result status is not,
+        λ lost. not (lost_status status w.events (status_by result status w.events w.tally is) (records_lost asked.layout.shape (terms_in asked rules) at_line to bytes rest w.events no_files are lost (λ same. absurd (cc)))),
+      ))
+      w.are;
 }
 
 -- the output had failed before
@@ -165,5 +178,5 @@ written_none asked rules input p status off is = record {
   events = [];
   put = λ fine. absurd (cc);
   status = inl is;
-  are = none_so_far asked.layout.shape rules asked.layout.most input (status ≢ 3) (λ not. not is);
+  are = none_so_far asked.layout.shape (terms_in asked rules) input (λ to. status ≢ 3) (λ not. not is);
 }

@@ -1,11 +1,16 @@
 pub mod FieldLemmas
 pub mod FrameLemmas
+pub mod HeaderLemmas
+pub mod HeldLemmas
 pub mod InputLemmas
 pub mod JudgeLemmas
 pub mod LineLemmas
+pub mod LossLemmas
+pub mod PlaceLemmas
 pub mod ReadingLemmas
 pub mod RecordLemmas
 pub mod RoomLemmas
+pub mod SizedLemmas
 pub mod SpareLemmas
 pub mod TextLemmas
 pub mod ToldLemmas

@@ -1,5 +1,5 @@
 -- What was found of the bytes of a record, and of the text that spells them.
-use Rattle.std.proofs.Common.{◌≡◌, ℕ, ◌+◌, ◌-◌, ◌≤◌, ◌<◌, ◌^◌, Bool, true, false, if◌then◌else◌, List, [], ◌∷◌, ◌++◌, length, take, drop, Option, Some, None, inl, inr, refl, sym, ap, subst, ◌∙◌, arith, append_assoc, append-nil, take-append-drop, length-append}
+use Rattle.std.proofs.Common.{◌≡◌, ℕ, ◌+◌, ◌-◌, min, ◌≤◌, ◌<◌, ◌^◌, Bool, true, false, if◌then◌else◌, List, [], ◌∷◌, ◌++◌, length, take, drop, Option, Some, None, inl, inr, refl, sym, ap, subst, ◌∙◌, arith, append_assoc, append-nil, take-append-drop, length-append}
 use Rattle.std.specs.Option.{is_some}
 use Rattle.std.specs.Prelude.{IfSome}
 use Rattle.jser_inputs.specs.declared.Form.{Form}
@@ -20,7 +20,8 @@ use Rattle.jser_records.specs.declared.answer.Answer.{Answer}
 use Rattle.jser_records.specs.declared.answer.Answer.TheVariants as answer
 use Rattle.jser_records.specs.Judged.{HasJudged, IsDecided, IsSound, Judging}
 use Rattle.jser_records.specs.declared.reading.Reading.{Reading}
-use Rattle.jser_records.specs.Readings.{Came, HasCome, HasRead, HasSpelled, IsFor, IsOf, IsOfBytes, IsOfDigits, IsRight, Spells, Stands, Value, none, plain, text_of, cut_at}
+use Rattle.jser_records.specs.Readings.{Came, HasCome, HasRead, HasSpelled, IsFor, IsOf, IsOfBytes, IsOfDigits, IsPlaced, IsRight, IsWrongIn, Spells, Stands, Value, none, plain, text_of, cut_at, unknown}
+use Rattle.jser_records.proofs.PlaceLemmas.{placed_now}
 use Rattle.jser_records.proofs.SpareLemmas.{IsDigitPlace, spare_within}
 
 -- ---- answers
@@ -99,7 +100,7 @@ first_right form.Hex = refl
 first_right form.Base64 = refl
 first_right form.Base64Url = refl
 
-pub spells_none : (judge : Judging) (most : ℕ) (form : Form) → HasJudged judge [] → Spells judge most most None (first_spot form) form []
+pub spells_none : (judge : Judging) (most : ℕ) (form : Form) → HasJudged judge [] → Spells judge most most None (record { form = form; spot = first_spot form; at = 0 }) form 0 []
 spells_none judge most form judged = record {
   bytes = [];
   stands = begins judge most judged;
@@ -107,12 +108,15 @@ spells_none judge most form judged = record {
   count = 0;
   reads = λ none. reads_none (first_spot form) [];
   right = λ none. first_right form;
+  form_is = λ none. refl;
+  at = λ none. omega arith;
+  placed = tt;
 }
 
-pub spells_stopped : (judge : Judging) (most room : ℕ) (result : Option Answer) (spot next : Spot) (form : Form) (text piece : List ℕ) → is_some result ≡ true
-    → Spells judge most room result spot form text → Spells judge most room result next form (text ++ piece)
-spells_stopped judge most room None spot next form text piece is had = absurd (cc)
-spells_stopped judge most room (Some a) spot next form text piece is had = record {
+pub spells_stopped : (judge : Judging) (most room : ℕ) (result : Option Answer) (d next : TextRead) (form : Form) (mark : ℕ) (text piece : List ℕ) → is_some result ≡ true
+    → Spells judge most room result d form mark text → Spells judge most room result next form mark (text ++ piece)
+spells_stopped judge most room None d next form mark text piece is had = absurd (cc)
+spells_stopped judge most room (Some a) d next form mark text piece is had = record {
   bytes = had.bytes;
   stands = record { going = λ none. absurd (cc); answered = had.stands.answered };
   begins =
@@ -122,14 +126,17 @@ spells_stopped judge most room (Some a) spot next form text piece is had = recor
   count = had.count;
   reads = λ none. absurd (cc);
   right = λ none. absurd (cc);
+  form_is = λ none. absurd (cc);
+  at = λ none. absurd (cc);
+  placed = λ more. subst (λ xs. IsPlaced form mark xs a) (sym (append_assoc text piece more)) (had.placed (piece ++ more));
 }
 
--- it is answered, by what is right of all bytes
-pub spells_answered : (judge : Judging) (most room : ℕ) (old : Option Answer) (result : Answer) (spot : Spot) (form : Form) (text piece : List ℕ)
-    → Spells judge most room old spot form text → ((bytes : List ℕ) → IsRight judge.rules most bytes result) → Spells judge most room (Some result) spot form (text ++ piece)
-spells_answered judge most room old result spot form text piece had right = record {
+-- there was no memory
+pub spells_answered : (judge : Judging) (most room : ℕ) (old : Option Answer) (d : TextRead) (form : Form) (mark : ℕ) (text piece : List ℕ)
+    → Spells judge most room old d form mark text → Spells judge most room (Some (answer.Checked found.OutOfMemory)) d form mark (text ++ piece)
+spells_answered judge most room old d form mark text piece had = record {
   bytes = had.bytes;
-  stands = record { going = λ none. absurd (cc); answered = λ more. right (had.bytes ++ more) };
+  stands = record { going = λ none. absurd (cc); answered = λ more. undecided_right judge.rules most (had.bytes ++ more) };
   begins =
       λ more.
       let x = had.begins (piece ++ more) in
@@ -137,21 +144,30 @@ spells_answered judge most room old result spot form text piece had right = reco
   count = had.count;
   reads = λ none. absurd (cc);
   right = λ none. absurd (cc);
+  form_is = λ none. absurd (cc);
+  at = λ none. absurd (cc);
+  placed = λ more. tt;
 }
 
-pub spells_on : (judge new : Judging) (limit most room left : ℕ) (result : Option Answer) (spot next : Spot) (form : Form) (text piece out : List ℕ) (taken : ℕ)
-    → (had : Spells judge limit room None spot form text) → Reads spot next piece [] out taken → Stands new most left result (had.bytes ++ out)
-    → (result ≡ None → is_wrong next.place ≡ false) → Spells new most left result next form (text ++ piece)
-spells_on judge new limit most room left result spot next form text piece out taken had reads stands right =
-    let all : Reads (first_spot form) next (text ++ piece) [] (had.bytes ++ out) (had.count + taken) =
-    reads_both (first_spot form) spot next text piece had.bytes out had.count taken (had.reads refl) reads in
+pub spells_on : (judge new : Judging) (limit most room left : ℕ) (mid result : Option Answer) (d next : TextRead) (form : Form) (mark : ℕ) (text piece out : List ℕ) (taken : ℕ)
+    → (had : Spells judge limit room None d form mark text) → Reads d.spot next.spot piece [] out taken → next.form ≡ d.form → next.at ≡ min (d.at + taken) (2 ^ 64 - 1)
+    → Stands new most left result (had.bytes ++ out) → (result ≡ None → is_wrong next.spot.place ≡ false) → IfSome mid IsOfBytes → IfSome mid (λ a. result ≡ Some a)
+    → (mid ≡ None → IfSome result (λ a. IsWrongIn next a)) → Spells new most left result next form mark (text ++ piece)
+spells_on judge new limit most room left mid result d next form mark text piece out taken had reads same moved stands right is_of kept wrong =
+    let all : Reads (first_spot form) next.spot (text ++ piece) [] (had.bytes ++ out) (had.count + taken) =
+    reads_both (first_spot form) d.spot next.spot text piece had.bytes out had.count taken (had.reads refl) reads in
+    let is : next.form ≡ form = same ∙ had.form_is refl in
+    let at : next.at ≡ min (mark + (had.count + taken)) (2 ^ 64 - 1) = let before = had.at refl in omega (arith, before, moved) in
     record {
       bytes = had.bytes ++ out;
       stands = stands;
-      begins = λ more. (spelled next more, all.spells more);
+      begins = λ more. (spelled next.spot more, all.spells more);
       count = had.count + taken;
       reads = λ none. all;
       right = right;
+      form_is = λ none. is;
+      at = λ none. at;
+      placed = placed_now mid result next form mark (text ++ piece) (had.bytes ++ out) (had.count + taken) is_of kept wrong all is at;
     }
 
 digit_place : (form : Form) → IsOfDigits form → IsDigitPlace (first_place form)
@@ -161,11 +177,11 @@ digit_place form.Base64 digits = tt
 digit_place form.Base64Url digits = tt
 
 -- white space is counted as far as that goes, unless the text has some 2^63 characters
-pub spare_room : (judge : Judging) (most room : ℕ) (spot : Spot) (form : Form) (text piece : List ℕ) → IsOfDigits form → length (text ++ piece) < 2 ^ 63
-    → Spells judge most room None spot form text → spot.spare + length piece < 2 ^ 64
-spare_room judge most room spot form text piece digits few had =
-    let spare : spot.spare ≤ 1048576 + length text =
-    spare_within (first_spot form) spot text had.bytes had.count (digit_place form digits) (had.reads refl) (had.right refl) in
+pub spare_room : (judge : Judging) (most room : ℕ) (d : TextRead) (form : Form) (mark : ℕ) (text piece : List ℕ) → IsOfDigits form → length (text ++ piece) < 2 ^ 63
+    → Spells judge most room None d form mark text → d.spot.spare + length piece < 2 ^ 64
+spare_room judge most room d form mark text piece digits few had =
+    let spare : d.spot.spare ≤ 1048576 + length text =
+    spare_within (first_spot form) d.spot text had.bytes had.count (digit_place form digits) (had.reads refl) (had.right refl) in
     let size : length (text ++ piece) ≡ length text + length piece = length-append text piece in
     omega (arith, spare, size, few)
 
@@ -183,17 +199,17 @@ unfolding spelled
 ends_whole spot is = ap (λ b. if b then [] else 256 ∷ []) is
 
 -- a text that ends where it may spells what came
-pub spelled_all : (judge : Judging) (most room : ℕ) (spot : Spot) (form : Form) (text : List ℕ) → (had : Spells judge most room None spot form text) → is_whole spot.place ≡ true
+pub spelled_all : (judge : Judging) (most room : ℕ) (d : TextRead) (form : Form) (mark : ℕ) (text : List ℕ) (had : Spells judge most room None d form mark text) → is_whole d.spot.place ≡ true
     → spelling_of form text ≡ had.bytes
-spelled_all judge most room spot form text had whole =
-    ap (λ w. spelled (first_spot form) w) (sym (append-nil text)) ∙ (had.reads refl).spells [] ∙ ap (λ w. had.bytes ++ w) (ends_whole spot whole) ∙ append-nil had.bytes
+spelled_all judge most room d form mark text had whole =
+    ap (λ w. spelled (first_spot form) w) (sym (append-nil text)) ∙ (had.reads refl).spells [] ∙ ap (λ w. had.bytes ++ w) (ends_whole d.spot whole) ∙ append-nil had.bytes
 
 pub answered_right : (judge : Judging) (most room : ℕ) (result : Answer) (bytes : List ℕ) → Stands judge most room (Some result) bytes → IsRight judge.rules most bytes result
 answered_right judge most room result bytes had = subst (λ xs. IsRight judge.rules most xs result) (append-nil bytes) (had.answered [])
 
-pub answered_spelled : (judge : Judging) (most room : ℕ) (result : Answer) (spot : Spot) (form : Form) (text : List ℕ) → Spells judge most room (Some result) spot form text
+pub answered_spelled : (judge : Judging) (most room : ℕ) (result : Answer) (d : TextRead) (form : Form) (mark : ℕ) (text : List ℕ) → Spells judge most room (Some result) d form mark text
     → IsRight judge.rules most (spelling_of form text) result
-answered_spelled judge most room result spot form text had =
+answered_spelled judge most room result d form mark text had =
     let x = had.begins [] in
     subst (λ xs. IsRight judge.rules most xs result) (sym (ap (λ w. spelled (first_spot form) w) (sym (append-nil text)) ∙ x.1)) (had.stands.answered x.0)
 
@@ -205,39 +221,40 @@ found_right judge most room bytes result had finds =
     (finds bytes g.judged, λ yes. omega (arith, count))
 
 -- what is answered is right of the text: it was answered before, or the text went wrong
-pub answer_spelled : (judge : Judging) (most room : ℕ) (old new : Option Answer) (result : Answer) (spot : Spot) (form : Form) (text : List ℕ)
-    → Spells judge most room old spot form text → new ≡ Some result → IfSome old (λ a. new ≡ Some a)
+pub answer_spelled : (judge : Judging) (most room : ℕ) (old new : Option Answer) (result : Answer) (d : TextRead) (form : Form) (mark : ℕ) (text : List ℕ)
+    → Spells judge most room old d form mark text → new ≡ Some result → IfSome old (λ a. new ≡ Some a)
     → (old ≡ None → (rules : Rules) (most : ℕ) (bytes : List ℕ) → IfSome new (λ a. IsRight rules most bytes a)) → IsRight judge.rules most (spelling_of form text) result
-answer_spelled judge most room None new result spot form text had is kept unread =
+answer_spelled judge most room None new result d form mark text had is kept unread =
     subst (λ o. IfSome o (λ a. IsRight judge.rules most (spelling_of form text) a)) is (unread refl judge.rules most (spelling_of form text))
-answer_spelled judge most room (Some a) new result spot form text had is kept unread =
+answer_spelled judge most room (Some a) new result d form mark text had is kept unread =
     let same : Some a ≡ Some result = sym kept ∙ is in
-    answered_spelled judge most room result spot form text (subst (λ o. Spells judge most room o spot form text) same had)
+    answered_spelled judge most room result d form mark text (subst (λ o. Spells judge most room o d form mark text) same had)
 
 whole_if : (b : Bool) (d new : TextRead) → new ≡ (if b then d else record d { spot = record d.spot { place = place.Wrong } }) → is_wrong new.spot.place ≡ false → b ≡ true
 whole_if true d new is right = refl
 whole_if false d new is right = let wrong : is_wrong new.spot.place ≡ true = ap (λ t. is_wrong t.spot.place) is in absurd (cc)
 
-pub found_spelled : (judge : Judging) (most room : ℕ) (d new : TextRead) (form : Form) (text : List ℕ) (result : Found) → Spells judge most room None d.spot form text
+pub found_spelled : (judge : Judging) (most room : ℕ) (d new : TextRead) (form : Form) (mark : ℕ) (text : List ℕ) (result : Found) → Spells judge most room None d form mark text
     → new ≡ (if is_whole d.spot.place then d else record d { spot = record d.spot { place = place.Wrong } }) → is_wrong new.spot.place ≡ false
     → ((taken : List ℕ) → HasJudged judge taken → IsSound judge.rules taken result) → IsRight judge.rules most (spelling_of form text) (answer.Checked result)
-found_spelled judge most room d new form text result had is right finds =
-    subst (λ xs. IsRight judge.rules most xs (answer.Checked result)) (sym (spelled_all judge most room d.spot form text had (whole_if (is_whole d.spot.place) d new is right)))
+found_spelled judge most room d new form mark text result had is right finds =
+    subst (λ xs. IsRight judge.rules most xs (answer.Checked result)) (sym (spelled_all judge most room d form mark text had (whole_if (is_whole d.spot.place) d new is right)))
     (found_right judge most room had.bytes result had.stands finds)
 
 -- ---- values
 
 finish_of : (r : Reading) (result : Answer) (value : Value) → ((bytes : List ℕ) → HasRead r bytes → IsRight r.judge.rules r.most bytes result)
-    → ((form : Form) (text : List ℕ) → HasSpelled r form text → IsRight r.judge.rules r.most (spelling_of form text) result)
+    → ((form : Form) (mark : ℕ) (text : List ℕ) → HasSpelled r form mark text → IsRight r.judge.rules r.most (spelling_of form text) result × IsPlaced form mark text result)
     → (r.decoder.spot.place ≡ place.Bytes → IfSome r.answer IsOfBytes → IsOfBytes result) → IfSome r.answer (λ a. result ≡ a) → HasCome r value
     → IsOf r.judge.rules r.most value result
 finish_of r result none right spelled is_of kept came = subst (λ o. IfSome o (λ b. result ≡ b)) came kept
 finish_of r result (plain bytes) right spelled is_of kept came = (right bytes came.read, is_of came.place came.is_of)
-finish_of r result (text_of form text) right spelled is_of kept came = spelled form text came
+finish_of r result (text_of form mark text) right spelled is_of kept came = spelled form mark text came
 finish_of r result (cut_at at total) right spelled is_of kept came = subst (λ o. IfSome o (λ b. result ≡ b)) came kept
+finish_of r result unknown right spelled is_of kept came = subst (λ o. IfSome o (λ b. result ≡ b)) came kept
 
 pub finish_for : (r : Reading) (is_lost : Bool) (result : Answer) (value : Value) → ((bytes : List ℕ) → HasRead r bytes → IsRight r.judge.rules r.most bytes result)
-    → ((form : Form) (text : List ℕ) → HasSpelled r form text → IsRight r.judge.rules r.most (spelling_of form text) result)
+    → ((form : Form) (mark : ℕ) (text : List ℕ) → HasSpelled r form mark text → IsRight r.judge.rules r.most (spelling_of form text) result × IsPlaced form mark text result)
     → (r.decoder.spot.place ≡ place.Bytes → IfSome r.answer IsOfBytes → IsOfBytes result) → IfSome r.answer (λ a. result ≡ a) → is_lost ≡ r.key.is_lost → Came r value
     → IsFor r.judge.rules r.most is_lost value result
 finish_for r is_lost result value right spelled is_of kept same (inl came) = inl (finish_of r result value right spelled is_of kept came)

@@ -1,80 +1,87 @@
 -- The records of an input, one after another.
-use Rattle.std.proofs.Common.{◌≡◌, ℕ, Bool, List, [], ◌∷◌, ◌++◌, Some, refl, sym, subst, ◌∙◌}
+use Rattle.std.proofs.Common.{◌≡◌, ℕ, List, [], ◌∷◌, ◌++◌, Some, true, refl, sym, ap, subst, ◌∙◌}
 use Rattle.jser_prim.specs.Outgoing.{SinkState}
-use Rattle.jser_scan.specs.declared.Rules.{Rules}
 use Rattle.jser_records.specs.declared.clerk.Clerk.{Clerk}
 use Rattle.jser_records.specs.declared.layout.Shape.{Shape}
-use Rattle.jser_records.specs.declared.reading.Reading.{Reading}
+use Rattle.jser_records.specs.declared.current.Record.{Record}
 use Rattle.jser_records.specs.Arriving.{Arriving, Took, ahead}
-use Rattle.jser_records.specs.Readings.{KeepsRules}
-use Rattle.jser_records.specs.Records.{AreRecords, IsRecord, RecordsFront, RecordsGo}
-use Rattle.jser_records.specs.Told.{Closes, Event, Quiet, ended, behind}
+use Rattle.jser_records.specs.Held.{Holds, Keeps, Terms, may_pass, passes, terms_of}
+use Rattle.jser_records.specs.Records.{AreRecords, IsPart, RecordsFront, RecordsGo}
+use Rattle.jser_records.specs.Sized.{At}
+use Rattle.jser_records.specs.Told.{Entry, Event, HandsOn, Quiet, SaysAll}
 use Rattle.jser_records.proofs.RoomLemmas.{ahead_took, took_none}
 use Rattle.jser_records.proofs.ToldLemmas.{quiet_none, says_all}
 
-are_both : (layout : Shape) (rules : Rules) (most : ℕ) (bytes mid rest : List ℕ) (xs ys : List Event) → AreRecords layout rules most bytes xs mid → AreRecords layout rules most mid ys rest
-    → AreRecords layout rules most bytes (xs ++ ys) rest
-are_both layout rules most bytes mid rest [] ys f g = subst (λ b. AreRecords layout rules most b ys rest) (sym f) g
-are_both layout rules most bytes mid rest (ended e ∷ xs) ys (left, f, fs) g = (left, f, are_both layout rules most left mid rest xs ys fs g)
-are_both layout rules most bytes mid rest (behind some ∷ xs) ys f g = absurd f
+are_both : (layout : Shape) (terms : Terms) (at mid to : At) (bytes left rest : List ℕ) (xs ys : List Event) → AreRecords layout terms at bytes xs mid left → AreRecords layout terms mid left ys to rest
+    → AreRecords layout terms at bytes (xs ++ ys) to rest
+are_both layout terms at mid to bytes left rest [] ys f g =
+    subst (λ b. AreRecords layout terms at b ys to rest) (sym f.1) (subst (λ a. AreRecords layout terms a left ys to rest) (sym f.0) g)
+are_both layout terms at mid to bytes left rest (e ∷ xs) ys (next, behind_it, f, fs) g =
+    (next, behind_it, f, are_both layout terms next mid to behind_it left rest xs ys fs g)
 
-under_same : (layout : Shape) (old new : Reading) (bytes rest : List ℕ) (events : List Event) → KeepsRules old new → AreRecords layout new.judge.rules new.most bytes events rest
-    → AreRecords layout old.judge.rules old.most bytes events rest
-under_same layout old new bytes rest events keeps f =
-    subst (λ g. AreRecords layout g old.most bytes events rest) keeps.rules (subst (λ m. AreRecords layout new.judge.rules m bytes events rest) keeps.most f)
+under_same : (layout : Shape) (at to : At) (old new : Record) (bytes rest : List ℕ) (events : List Event) → Keeps old new → AreRecords layout (terms_of new) at bytes events to rest
+    → AreRecords layout (terms_of old) at bytes events to rest
+under_same layout at to old new bytes rest events keeps f = subst (λ t. AreRecords layout t at bytes events to rest) keeps f
 
-pub records_both : (layout : Shape) (a b c : Clerk) (from mid now : Arriving) (p q r s t u : SinkState) → RecordsGo layout a b from mid p q s t → RecordsGo layout b c mid now q r t u → RecordsGo layout a c from now p r s u
-records_both layout a b c from mid now p q r s t u f g = record {
+pub records_both : (layout : Shape) (at on to : At) (a b c : Clerk) (from mid now : Arriving) (p q r s t u : SinkState) → RecordsGo layout at on a b from mid p q s t → RecordsGo layout on to b c mid now q r t u
+    → RecordsGo layout at to a c from now p r s u
+records_both layout at on to a b c from mid now p q r s t u f g = record {
   events = f.events ++ g.events;
   says = says_all a b c p q r s t u f.events g.events f.says g.says;
-  keeps = record { rules = g.keeps.rules ∙ f.keeps.rules; most = g.keeps.most ∙ f.keeps.most };
+  keeps = g.keeps ∙ f.keeps;
   are =
       λ bytes known.
       let x = f.are bytes known in
       let y = g.are x.0 x.1 in
-      (y.0, y.1, are_both layout a.current.reading.judge.rules a.current.reading.most bytes x.0 y.0 f.events g.events x.2 (under_same layout a.current.reading b.current.reading x.0 y.0 g.events f.keeps y.2));
+      (y.0, y.1, are_both layout (terms_of a.current) at on to bytes x.0 y.0 f.events g.events x.2 (under_same layout on to a.current b.current x.0 y.0 g.events f.keeps y.2));
 }
 
-pub records_then : (layout : Shape) (a b c : Clerk) (from mid : Arriving) (p q r s t u : SinkState) → RecordsGo layout a b from mid p q s t → RecordsFront layout b c mid q r t u → RecordsFront layout a c from p r s u
-records_then layout a b c from mid p q r s t u f g = record {
+pub records_then : (layout : Shape) (at on : At) (a b c : Clerk) (from mid : Arriving) (p q r s t u : SinkState) → RecordsGo layout at on a b from mid p q s t → RecordsFront layout on b c mid q r t u
+    → RecordsFront layout at a c from p r s u
+records_then layout at on a b c from mid p q r s t u f g = record {
   events = f.events ++ g.events;
   says = says_all a b c p q r s t u f.events g.events f.says g.says;
   are =
       λ bytes known.
       let x = f.are bytes known in
       let y = g.are x.0 x.1 in
-      (y.0, are_both layout a.current.reading.judge.rules a.current.reading.most bytes x.0 y.0 f.events g.events x.2 (under_same layout a.current.reading b.current.reading x.0 y.0 g.events f.keeps y.1));
+      (y.0, y.1, are_both layout (terms_of a.current) at on y.0 bytes x.0 y.1 f.events g.events x.2 (under_same layout on y.0 a.current b.current x.0 y.1 g.events f.keeps y.2));
 }
 
-pub records_front : (layout : Shape) (a b : Clerk) (from now : Arriving) (p q s t : SinkState) → RecordsGo layout a b from now p q s t → RecordsFront layout a b from p q s t
-records_front layout a b from now p q s t f = record { events = f.events; says = f.says; are = λ bytes known. let x = f.are bytes known in (x.0, x.2) }
+pub records_front : (layout : Shape) (at to : At) (a b : Clerk) (from now : Arriving) (p q s t : SinkState) → RecordsGo layout at to a b from now p q s t → RecordsFront layout at a b from p q s t
+records_front layout at to a b from now p q s t f = record { events = f.events; says = f.says; are = λ bytes known. let x = f.are bytes known in (to, x.0, x.2) }
 
 -- nothing was taken
-pub records_quiet : (layout : Shape) (a b : Clerk) (from now : Arriving) (p q s t : SinkState) → Quiet a b p q s t → Took from now [] → RecordsGo layout a b from now p q s t
-records_quiet layout a b from now p q s t quiet took = record {
+pub records_quiet : (layout : Shape) (at : At) (a b : Clerk) (from now : Arriving) (p q s t : SinkState) → Quiet a b p q s t → Took from now [] → RecordsGo layout at at a b from now p q s t
+records_quiet layout at a b from now p q s t quiet took = record {
   events = [];
   says = quiet.says;
   keeps = quiet.keeps;
-  are = λ bytes known. let x = ahead_took from now [] bytes took known in (x.0, x.1, x.2);
+  are = λ bytes known. let x = ahead_took from now [] bytes took known in (x.0, x.1, (refl, x.2));
 }
 
-pub records_none : (layout : Shape) (a : Clerk) (at : Arriving) (p s : SinkState) → RecordsGo layout a a at at p p s s
-records_none layout a at p s = records_quiet layout a a at at p p s s (quiet_none a p s) (took_none at)
+pub records_none : (layout : Shape) (at : At) (a : Clerk) (room : Arriving) (p s : SinkState) → RecordsGo layout at at a a room room p p s s
+records_none layout at a room p s = records_quiet layout at a a room room p p s s (quiet_none a p s) (took_none room)
 
 -- there was a trouble before a record ended
-pub front_quiet : (layout : Shape) (old last : Clerk) (from : Arriving) (p q s t : SinkState) → Quiet old last p q s t → RecordsFront layout old last from p q s t
-front_quiet layout old last from p q s t quiet = record { events = []; says = quiet.says; are = λ bytes known. (bytes, refl) }
+pub front_quiet : (layout : Shape) (at : At) (old last : Clerk) (from : Arriving) (p q s t : SinkState) → Quiet old last p q s t → RecordsFront layout at old last from p q s t
+front_quiet layout at old last from p q s t quiet = record { events = []; says = quiet.says; are = λ bytes known. (at, bytes, (refl, refl)) }
 
--- a record ended
-pub record_ended : (layout : Shape) (old last new : Clerk) (from now : Arriving) (p q r s t u : SinkState) (passed : Bool) (raw : List ℕ) → Quiet old last p q s t → Took from now raw → (closes : Closes last new q r t u passed)
-    → ((rest : List ℕ) → ahead now ≡ Some rest → IsRecord layout old.current.reading.judge.rules old.current.reading.most (raw ++ rest) closes.entry rest)
-    → RecordsGo layout old new from now p r s u
-record_ended layout old last new from now p q r s t u passed raw quiet took closes is = record {
-  events = ended closes.entry ∷ [];
-  says = says_all old last new p q r s t u [] (ended closes.entry ∷ []) quiet.says closes.says;
-  keeps = record { rules = closes.keeps.rules ∙ quiet.keeps.rules; most = closes.keeps.most ∙ quiet.keeps.most };
+-- something came of the bytes that were taken
+pub part_said : (layout : Shape) (at to : At) (old last new : Clerk) (from now : Arriving) (p q r s t u : SinkState) (event : Event) (raw : List ℕ) → Quiet old last p q s t → Took from now raw
+    → SaysAll last new q r t u (event ∷ []) → Keeps last.current new.current
+    → ((rest : List ℕ) → ahead now ≡ Some rest → IsPart layout (terms_of old.current) at (raw ++ rest) event to rest) → RecordsGo layout at to old new from now p r s u
+part_said layout at to old last new from now p q r s t u event raw quiet took says keeps is = record {
+  events = event ∷ [];
+  says = says_all old last new p q r s t u [] (event ∷ []) quiet.says says;
+  keeps = keeps ∙ quiet.keeps;
   are =
       λ bytes known.
       let x = ahead_took from now raw bytes took known in
-      (x.0, x.1, (x.0, subst (λ all. IsRecord layout old.current.reading.judge.rules old.current.reading.most all closes.entry x.0) (sym x.2) (is x.0 x.1), refl));
+      (x.0, x.1, (to, x.0, subst (λ all. IsPart layout (terms_of old.current) at all event to x.0) (sym x.2) (is x.0 x.1), (refl, refl)));
 }
+
+-- the bytes that were kept of a record are those that are handed on
+pub handed : (old last : Record) (entry : Entry) (raw : List ℕ) → Keeps old last → Holds last raw → entry.held ≡ last.held.items → (passes entry.answer ≡ true → may_pass last.reading.answer ≡ true)
+    → HandsOn (terms_of old) entry raw
+handed old last entry raw keeps holds kept may = λ on on_it. kept ∙ holds (ap (λ (t : Terms). t.hands_on) keeps ∙ on) (may on_it)

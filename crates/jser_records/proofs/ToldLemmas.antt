@@ -1,5 +1,5 @@
 -- What is said of records, one after another.
-use Rattle.std.proofs.Common.{◌≡◌, ℕ, Bool, true, List, [], ◌∷◌, ◌++◌, refl, sym, ap, subst, ◌∙◌, if◌then◌else◌}
+use Rattle.std.proofs.Common.{◌≡◌, ℕ, Bool, true, false, ◌&&◌, List, [], ◌∷◌, ◌++◌, refl, sym, ap, subst, ◌∙◌, if◌then◌else◌}
 use Rattle.jser_prim.specs.Outgoing.{SinkState, Puts}
 use Rattle.jser_printer.specs.Says.{Says}
 use Rattle.jser_printer.proofs.SaysLemmas.{says_both, says_bytes, says_nothing, says_same}
@@ -11,8 +11,9 @@ use Rattle.jser_records.specs.declared.clerk.Clerk.{Clerk}
 use Rattle.jser_records.specs.declared.key.Key.{Key}
 use Rattle.jser_records.specs.declared.current.Record.{Record}
 use Rattle.jser_records.specs.Keys.{KeepsKey}
-use Rattle.jser_records.specs.Readings.{Came, IsFor, KeepsRules, Value}
-use Rattle.jser_records.specs.Told.{Closes, Event, Goes, Quiet, SaysAll, all_counted, all_put, all_told, behind, counted, counted_event, ended, number_after, number_at_end, passes, put_event, put_of, told_event, told_of}
+use Rattle.jser_records.specs.Held.{Keeps, may_pass, passes, terms_of}
+use Rattle.jser_records.specs.Readings.{Came, IsFor, Value}
+use Rattle.jser_records.specs.Told.{Closes, Event, Quiet, SaysAll, all_counted, all_put, all_told, behind_it, counted, counted_event, ended, number_after, number_at_end, passed_over, put_event, put_of, told_event, told_of}
 
 -- ---- one event after another
 
@@ -78,59 +79,28 @@ says_changed b x q t = record {
 -- ---- calls in which no record ends
 
 pub quiet_none : (a : Clerk) (p s : SinkState) → Quiet a a p p s s
-quiet_none a p s = record { says = says_none a p s; keeps = record { rules = refl; most = refl } }
+quiet_none a p s = record { says = says_none a p s; keeps = refl }
 
 pub quiet_both : (a b c : Clerk) (p q r s t u : SinkState) → Quiet a b p q s t → Quiet b c q r t u → Quiet a c p r s u
 quiet_both a b c p q r s t u f g = record {
   says = says_all a b c p q r s t u [] [] f.says g.says;
-  keeps = record { rules = g.keeps.rules ∙ f.keeps.rules; most = g.keeps.most ∙ f.keeps.most };
+  keeps = g.keeps ∙ f.keeps;
 }
 
--- the record that is read changed, not its rules
-pub quiet_changed : (b : Clerk) (x : Record) (q t : SinkState) → KeepsRules b.current.reading x.reading → Quiet b (record b { current = x }) q q t t
+-- the record that is read changed, not its terms
+pub quiet_changed : (b : Clerk) (x : Record) (q t : SinkState) → Keeps b.current x → Quiet b (record b { current = x }) q q t t
 quiet_changed b x q t keeps = record { says = says_changed b x q t; keeps = keeps }
 
 -- it changed before a call, or behind one
-pub quiet_from : (b other c : Clerk) (q r t u : SinkState) → other ≡ record b { current = other.current } → KeepsRules b.current.reading other.current.reading → Quiet other c q r t u
+pub quiet_from : (b other c : Clerk) (q r t u : SinkState) → other ≡ record b { current = other.current } → Keeps b.current other.current → Quiet other c q r t u
     → Quiet b c q r t u
 quiet_from b other c q r t u same keeps g =
     quiet_both b (record b { current = other.current }) c q q r t t u (quiet_changed b other.current q t keeps) (subst (λ z. Quiet z c q r t u) same g)
 
-pub quiet_then_changed : (a b other : Clerk) (p q s t : SinkState) → Quiet a b p q s t → other ≡ record b { current = other.current } → KeepsRules b.current.reading other.current.reading
+pub quiet_then_changed : (a b other : Clerk) (p q s t : SinkState) → Quiet a b p q s t → other ≡ record b { current = other.current } → Keeps b.current other.current
     → Quiet a other p q s t
 quiet_then_changed a b other p q s t f same keeps =
     subst (λ z. Quiet a z p q s t) (sym same) (quiet_both a b (record b { current = other.current }) p q q s t t f (quiet_changed b other.current q t keeps))
-
-pub quiet_goes : (old new : Clerk) (p q s t : SinkState) → Quiet old new p q s t → Goes old new p q s t
-quiet_goes old new p q s t f = record { events = []; says = f.says }
-
--- ---- calls
-
-pub goes_both : (a b c : Clerk) (p q r s t u : SinkState) → Goes a b p q s t → Goes b c q r t u → Goes a c p r s u
-goes_both a b c p q r s t u f g = record { events = f.events ++ g.events; says = says_all a b c p q r s t u f.events g.events f.says g.says }
-
-pub goes_none : (a : Clerk) (p s : SinkState) → Goes a a p p s s
-goes_none a p s = record { events = []; says = says_none a p s }
-
--- the record that is read changed
-goes_quiet : (b : Clerk) (x : Record) (q t : SinkState) → Goes b (record b { current = x }) q q t t
-goes_quiet b x q t = record { events = []; says = says_changed b x q t }
-
-pub goes_from : (b other c : Clerk) (q r t u : SinkState) → other ≡ record b { current = other.current } → Goes other c q r t u → Goes b c q r t u
-goes_from b other c q r t u same g =
-    let made : Goes b (record b { current = other.current }) q q t t = goes_quiet b other.current q t in
-    goes_both b (record b { current = other.current }) c q q r t t u made (subst (λ z. Goes z c q r t u) same g)
-
-pub goes_on : (a b other c : Clerk) (p q r s t u : SinkState) → Goes a b p q s t → other ≡ record b { current = other.current } → Goes other c q r t u → Goes a c p r s u
-goes_on a b other c p q r s t u f same g = goes_both a b c p q r s t u f (goes_from b other c q r t u same g)
-
-pub goes_kept : (a b other : Clerk) (p q s t : SinkState) → Goes a b p q s t → other ≡ record b { current = other.current } → Goes a other p q s t
-goes_kept a b other p q s t f same =
-    subst (λ z. Goes a z p q s t) (sym same)
-    (goes_both a b (record b { current = other.current }) p q q s t t f (goes_quiet b other.current q t))
-
-pub goes_changed : (b other : Clerk) (q t : SinkState) → other ≡ record b { current = other.current } → Goes b other q q t t
-goes_changed b other q t same = subst (λ z. Goes b z q q t t) (sym same) (goes_quiet b other.current q t)
 
 one_said : (old new : Clerk) (p q s t : SinkState) (key : Key) (units : List ℕ) (result : Answer) (held : List ℕ)
     → Says old.output new.output p q (λ k. put_of old.how old.passes old.number key units result held k)
@@ -145,41 +115,61 @@ pub closes : (old new : Clerk) (p q s t : SinkState) (passed : Bool) (key : Key)
     → Says old.output new.output p q (λ k. put_of old.how old.passes old.number key units result held k)
     → Says old.faults new.faults s t (λ k. told_of old.how old.passes old.number key units result k)
     → new.number ≡ one_more old.number → new.tally ≡ counted old.tally result → new.how ≡ old.how → new.passes ≡ old.passes
-    → held ≡ old.current.held.items → passed ≡ passes result
+    → held ≡ old.current.held.items → passed ≡ passes result → (passes result ≡ true → may_pass old.current.reading.answer ≡ true)
     → ((value : Value) → Came old.current.reading value → IsFor old.current.reading.judge.rules old.current.reading.most key.is_lost value result)
-    → KeepsRules old.current.reading new.current.reading → KeepsKey old.current.reading.key key → Closes old new p q s t passed
-closes old new p q s t passed key units result held put told number tally how on kept is right keeps same = record {
+    → Keeps old.current new.current → KeepsKey old.current.reading.key key result → Closes old new p q s t passed
+closes old new p q s t passed key units result held put told number tally how on kept is may right keeps same = record {
   entry = record { key = key; units = units; answer = result; held = held };
   says = one_said old new p q s t key units result held put told number tally how on;
   held = kept;
   passed = is;
+  may = may;
   right = right;
   keeps = keeps;
   key = same;
 }
 
-pub goes_closed : (old new : Clerk) (p q s t : SinkState) (key : Key) (units : List ℕ) (result : Answer) (held : List ℕ)
-    → Says old.output new.output p q (λ k. put_of old.how old.passes old.number key units result held k)
-    → Says old.faults new.faults s t (λ k. told_of old.how old.passes old.number key units result k)
-    → new.number ≡ one_more old.number → new.tally ≡ counted old.tally result → new.how ≡ old.how → new.passes ≡ old.passes → Goes old new p q s t
-goes_closed old new p q s t key units result held put told number tally how on = record {
-  events = ended (record { key = key; units = units; answer = result; held = held }) ∷ [];
-  says = one_said old new p q s t key units result held put told number tally how on;
+-- bytes behind it were handed on, or passed over
+pub said_behind : (old new : Clerk) (p q s : SinkState) (passed : Bool) (bytes : List ℕ) → passed ≡ true → old.passes ≡ true → Says old.output new.output p q (λ k. bytes ++ k) → new.faults ≡ old.faults
+    → new.number ≡ old.number → new.tally ≡ old.tally → new.how ≡ old.how → new.passes ≡ old.passes → SaysAll old new p q s s (behind_it passed bytes ∷ [])
+said_behind old new p q s passed bytes is on put kept number tally how same =
+    subst (λ b. SaysAll old new p q s s (behind_it b bytes ∷ [])) (sym is)
+    (record {
+      output = says_same old.output new.output p q (λ k. bytes ++ k) (λ k. if old.passes then bytes ++ k else k) (λ k. ap (λ b. if b then bytes ++ k else k) on) put;
+      faults = subst (λ o. Says old.faults o s s (λ k. k)) (sym kept) (says_nothing old.faults s (λ k. k) (λ k. refl));
+      number = number;
+      tally = tally;
+      how = how;
+      passes = same;
+    })
+
+pub said_over : (a : Clerk) (p s : SinkState) (passed : Bool) (bytes : List ℕ) → passed && a.passes ≡ false → SaysAll a a p p s s (behind_it passed bytes ∷ [])
+said_over a p s true bytes off = record {
+  output = says_nothing a.output p (λ k. if a.passes then bytes ++ k else k) (λ k. ap (λ b. if b then bytes ++ k else k) off);
+  faults = says_nothing a.faults s (λ k. k) (λ k. refl);
+  number = refl;
+  tally = refl;
+  how = refl;
+  passes = refl;
+}
+said_over a p s false bytes off = record {
+  output = says_nothing a.output p (λ k. k) (λ k. refl);
+  faults = says_nothing a.faults s (λ k. k) (λ k. refl);
+  number = refl;
+  tally = refl;
+  how = refl;
+  passes = refl;
 }
 
--- bytes behind it were handed on
-pub goes_behind : (old new : Clerk) (p q s : SinkState) (bytes : List ℕ) → old.passes ≡ true → Says old.output new.output p q (λ k. bytes ++ k) → new.faults ≡ old.faults
-    → new.number ≡ old.number → new.tally ≡ old.tally → new.how ≡ old.how → new.passes ≡ old.passes → Goes old new p q s s
-goes_behind old new p q s bytes on put kept number tally how same = record {
-  events = behind bytes ∷ [];
-  says = record {
-    output = says_same old.output new.output p q (λ k. bytes ++ k) (λ k. if old.passes then bytes ++ k else k) (λ k. ap (λ b. if b then bytes ++ k else k) on) put;
-    faults = subst (λ o. Says old.faults o s s (λ k. k)) (sym kept) (says_nothing old.faults s (λ k. k) (λ k. refl));
-    number = number;
-    tally = tally;
-    how = how;
-    passes = same;
-  };
+-- bytes were passed over that are no record
+pub said_none : (a : Clerk) (p s : SinkState) (bytes : List ℕ) → SaysAll a a p p s s (passed_over bytes ∷ [])
+said_none a p s bytes = record {
+  output = says_nothing a.output p (λ k. k) (λ k. refl);
+  faults = says_nothing a.faults s (λ k. k) (λ k. refl);
+  number = refl;
+  tally = refl;
+  how = refl;
+  passes = refl;
 }
 
 -- all that waited was handed to the devices
@@ -194,13 +184,9 @@ flushed old new p q s t put told number tally how same = record {
   passes = same;
 }
 
-pub goes_flushed : (old new : Clerk) (p q s t : SinkState) → Puts old.output new.output p q [] → Puts old.faults new.faults s t [] → new.number ≡ old.number
-    → new.tally ≡ old.tally → new.how ≡ old.how → new.passes ≡ old.passes → Goes old new p q s t
-goes_flushed old new p q s t put told number tally how same = record { events = []; says = flushed old new p q s t put told number tally how same }
-
 pub quiet_flushed : (old new : Clerk) (p q s t : SinkState) → Puts old.output new.output p q [] → Puts old.faults new.faults s t [] → new.number ≡ old.number
     → new.tally ≡ old.tally → new.how ≡ old.how → new.passes ≡ old.passes → new.current ≡ old.current → Quiet old new p q s t
 quiet_flushed old new p q s t put told number tally how same current = record {
   says = flushed old new p q s t put told number tally how same;
-  keeps = record { rules = ap (λ (c : Record). c.reading.judge.rules) current; most = ap (λ (c : Record). c.reading.most) current };
+  keeps = ap (λ (r : Record). terms_of r) current;
 }

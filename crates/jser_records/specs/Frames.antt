@@ -2,12 +2,13 @@
 use Rattle.std.specs.Prelude.{ℕ, ◌≡◌, ◌⊎◌, ◌-◌, ◌^◌, ◌<◌, false, List, [], ◌++◌, length, Option, Some, None}
 use Rattle.jser_prim.specs.Bytes.{big_bytes}
 use Rattle.jser_scan.specs.declared.Found.TheVariants as found
-use Rattle.jser_scan.specs.declared.Rules.{Rules}
 use Rattle.jser_records.specs.declared.answer.Answer.TheVariants as answer
+use Rattle.jser_records.specs.declared.current.Record.{Record}
 use Rattle.jser_records.specs.declared.reading.Reading.{Reading}
 use Rattle.jser_records.specs.Arriving.{Arriving, IsOver, Took}
-use Rattle.jser_records.specs.Readings.{Came, Counts, HasPlain, IsFor, Value, none, plain, text_of, cut_at}
-use Rattle.jser_records.specs.Told.{Entry}
+use Rattle.jser_records.specs.Held.{HoldsMore, Terms}
+use Rattle.jser_records.specs.Readings.{Came, Counts, HasPlain, IsFor, Value, none, plain, text_of, cut_at, unknown}
+use Rattle.jser_records.specs.Told.{Entry, HandsOn}
 
 abbrev pub null_length : ℕ
 null_length = 2 ^ 32 - 1
@@ -30,39 +31,44 @@ pub record IsCutFrame (frame : List ℕ) (at total : ℕ) : Type 0 where
 abbrev pub IsFrame : (frame : List ℕ) → Value → (rest : List ℕ) → Type 0
 IsFrame frame none rest = frame ≡ big_bytes 4 null_length
 IsFrame frame (plain bytes) rest = (frame ≡ big_bytes 4 (length bytes) ++ bytes) × (length bytes < null_length)
-IsFrame frame (text_of form text) rest = ⊥
+IsFrame frame (text_of form mark text) rest = ⊥
+IsFrame frame unknown rest = ⊥
 IsFrame frame (cut_at at total) rest = (IsCutLength frame at total ⊎ IsCutFrame frame at total) × (rest ≡ [])
 
--- The record of the frame at the front of these bytes: its answer is right of its value, and it has no KEY.
-pub record FrameOf (rules : Rules) (most : ℕ) (bytes : List ℕ) (entry : Entry) (rest : List ℕ) : Type 0 where
+-- The record of the frame at the front of these bytes: its answer is right of its value, it has no KEY, and the frame is what is
+-- handed on of it.
+pub record FrameOf (terms : Terms) (bytes : List ℕ) (entry : Entry) (rest : List ℕ) : Type 0 where
   pub frame : List ℕ
   pub value : Value
   pub split : bytes ≡ frame ++ rest
   pub is : IsFrame frame value rest
-  pub right : IsFor rules most entry.key.is_lost value entry.answer
+  pub right : IsFor terms.rules terms.most entry.key.is_lost value entry.answer
+  pub held : HandsOn terms entry frame
   pub no_key : entry.key.is_there ≡ false
   pub not_lost : entry.key.is_lost ≡ false
 
 -- ---- as they are read
 
 -- so many bytes were taken, which come behind others
-pub record TakesSome (total : ℕ) (before : List ℕ) (from now : Arriving) (r : Reading) (count : ℕ) : Type 0 where
+pub record TakesSome (total : ℕ) (before : List ℕ) (from now : Arriving) (old new : Record) (count : ℕ) : Type 0 where
   pub bytes : List ℕ
   pub took : Took from now bytes
   pub size : length bytes ≡ count
-  pub counts : Counts r total (before ++ bytes)
+  pub counts : Counts new.reading total (before ++ bytes)
+  pub held : HoldsMore old new bytes
 
 -- so many of all were taken
-pub record TakesOn (count taken : ℕ) (from now : Arriving) (r : Reading) : Type 0 where
+pub record TakesOn (count taken : ℕ) (from now : Arriving) (old new : Record) : Type 0 where
   pub bytes : List ℕ
   pub took : Took from now bytes
   pub size : length bytes ≡ taken
-  pub counts : Counts r count bytes
+  pub counts : Counts new.reading count bytes
+  pub held : HoldsMore old new bytes
 
 -- a piece of so many bytes at most, or the input ended
-abbrev pub PieceTakes : (total : ℕ) → (before : List ℕ) → (from now : Arriving) → Reading → Option ℕ → Type 0
-PieceTakes total before from now r (Some size) = TakesSome total before from now r size
-PieceTakes total before from now r None = TakesSome total before from now r 0 × IsOver now
+abbrev pub PieceTakes : (total : ℕ) → (before : List ℕ) → (from now : Arriving) → (old new : Record) → Option ℕ → Type 0
+PieceTakes total before from now old new (Some size) = TakesSome total before from now old new size
+PieceTakes total before from now old new None = TakesSome total before from now old new 0 × IsOver now
 
 -- no byte of a value came so far
 pub record Begun (r : Reading) : Type 0 where
@@ -76,21 +82,24 @@ pub record IsCut (count : ℕ) (bytes : List ℕ) (now : Arriving) (r : Reading)
   pub over : IsOver now
 
 -- All were taken, or the input ended before.
-pub record Takes (count : ℕ) (from now : Arriving) (r : Reading) : Type 0 where
+pub record Takes (count : ℕ) (from now : Arriving) (old new : Record) : Type 0 where
   pub bytes : List ℕ
   pub took : Took from now bytes
-  pub whole : ((length bytes ≡ count) × HasPlain r bytes) ⊎ IsCut count bytes now r
+  pub whole : ((length bytes ≡ count) × Came new.reading (plain bytes)) ⊎ IsCut count bytes now new.reading
+  pub held : HoldsMore old new bytes
 
 -- the value behind a length: of so many bytes, or a null
 abbrev pub IsBehind : (count : ℕ) → Value → List ℕ → (now : Arriving) → Type 0
 IsBehind count none bytes now = (count ≡ null_length) × (bytes ≡ [])
 IsBehind count (plain value) bytes now = (count < null_length) × (value ≡ bytes) × (length bytes ≡ count)
-IsBehind count (text_of form text) bytes now = ⊥
+IsBehind count (text_of form mark text) bytes now = ⊥
+IsBehind count unknown bytes now = ⊥
 IsBehind count (cut_at at total) bytes now = (count < null_length) × (length bytes ≡ at) × (at < count) × (total ≡ count) × IsOver now
 
-pub record TakesValue (count : ℕ) (from now : Arriving) (r : Reading) : Type 0 where
+pub record TakesValue (count : ℕ) (from now : Arriving) (old new : Record) : Type 0 where
   pub value : Value
   pub bytes : List ℕ
   pub took : Took from now bytes
   pub is : IsBehind count value bytes now
-  pub came : Came r value
+  pub came : Came new.reading value
+  pub held : HoldsMore old new bytes

@@ -10,21 +10,17 @@ use Rattle.jser_records.specs.declared.layout.Shape.{Shape}
 use Rattle.jser_records.specs.declared.layout.Shape.TheVariants as shape
 use Rattle.jser_records.specs.declared.run.Asked.{Asked}
 use Rattle.jser_records.specs.declared.run.Trouble.{Trouble}
+use Rattle.jser_records.specs.Held.{Terms, terms_of}
 use Rattle.jser_records.specs.Lines.{end_of}
 use Rattle.jser_records.specs.Records.{AreRecords}
+use Rattle.jser_records.specs.Sized.{At, at_line, at_loss}
 use Rattle.jser_records.specs.Told.{Event, SaysAll, all_counted, all_put}
 
 -- These are the records of an input that tells its bytes, from the first on, each one and no other; and all of them, where it
 -- was read whole.
-abbrev pub AreAll : Shape → Rules → (most : ℕ) → (input : Option (List ℕ)) → List Event → (whole : Type 0) → Type 0
-AreAll layout rules most input events whole =
-    IfSome input (λ bytes. (rest : List ℕ) × AreRecords layout rules most bytes events rest × (whole → rest ≡ []))
-
--- so they are of lines and of frames; which records sized values are is not said here
-abbrev pub AreOf : Shape → Rules → (most : ℕ) → (input : Option (List ℕ)) → List Event → (whole : Type 0) → Type 0
-AreOf (shape.Lines lines) rules most input events whole = AreAll (shape.Lines lines) rules most input events whole
-AreOf shape.Frames rules most input events whole = AreAll shape.Frames rules most input events whole
-AreOf shape.Sized rules most input events whole = Unit {0}
+abbrev pub AreAll : Shape → Terms → (input : Option (List ℕ)) → List Event → (whole : At → Type 0) → Type 0
+AreAll layout terms input events whole =
+    IfSome input (λ bytes. (to : At) × (rest : List ℕ) × AreRecords layout terms at_line bytes events to rest × (whole to → rest ≡ []))
 
 -- the byte that is looked for
 abbrev pub sought_in : Shape → ℕ
@@ -38,10 +34,10 @@ IsFine (Ok x) = Unit {0}
 IsFine (Err trouble) = ⊥
 
 -- records of an input came to a clerk, and it said all of them, and nothing else
-pub record Reads (layout : Shape) (old new : Clerk) (input : Option (List ℕ)) (before after told_before told_after : SinkState) (whole : Type 0) : Type 0 where
+pub record Reads (layout : Shape) (old new : Clerk) (input : Option (List ℕ)) (before after told_before told_after : SinkState) (fine : Type 0) : Type 0 where
   pub events : List Event
   pub says : SaysAll old new before after told_before told_after events
-  pub are : AreOf layout old.current.reading.judge.rules old.current.reading.most input events whole
+  pub are : AreAll layout (terms_of old.current) input events (λ to. fine × (to ≢ at_loss))
 
 abbrev pub ReadsTo : {S T X : Type 0} → (S → Option (List ℕ)) → (S → Bool) → (T → Option (List ℕ)) → (T → Bool) → Result X Trouble → Shape → (old new : Clerk)
     → (input : Option (List ℕ)) → (before after : S) → (told_before told_after : T) → Type 0
@@ -49,13 +45,17 @@ ReadsTo gone_out has_failed told_out told_failed result layout old new input bef
     Reads layout old new input (sink_state (gone_out before) (has_failed before)) (sink_state (gone_out after) (has_failed after))
     (sink_state (told_out told_before) (told_failed told_before)) (sink_state (told_out told_after) (told_failed told_after)) (IsFine result)
 
+-- what records are read under, as it is asked
+abbrev pub terms_in : Asked → Rules → Terms
+terms_in asked rules = record { rules = rules; most = asked.layout.most; hands_on = asked.pass }
+
 -- What is written of all records of an input: as long as the output has not failed, what is put of the records in their order,
 -- from number 0, and nothing else. The status is that of their counts, or 3.
 pub record Written (asked : Asked) (rules : Rules) (input : Option (List ℕ)) (before after : SinkState) (result : ℕ) : Type 0 where
   pub events : List Event
   pub put : after.failed ≡ false → Appends before.gone_out after.gone_out (all_put asked.how asked.pass 0 events [])
   pub status : (result ≡ 3) ⊎ (result ≡ status_of (all_counted no_files events))
-  pub are : AreOf asked.layout.shape rules asked.layout.most input events (result ≢ 3)
+  pub are : AreAll asked.layout.shape (terms_in asked rules) input events (λ to. result ≢ 3)
 
 abbrev pub WrittenTo : {S : Type 0} → (S → Option (List ℕ)) → (S → Bool) → Asked → Rules → (input : Option (List ℕ)) → (before after : S) → (status : ℕ) → Type 0
 WrittenTo gone_out has_failed asked rules input before after status =
@@ -66,7 +66,7 @@ pub record Wrote (asked : Asked) (rules : Rules) (input : Option (List ℕ)) (be
   pub events : List Event
   pub put : after.failed ≡ false → Appends before.gone_out after.gone_out (all_put asked.how asked.pass 0 events [])
   pub tally : IfOk result (λ tally. tally ≡ all_counted no_files events)
-  pub are : AreOf asked.layout.shape rules asked.layout.most input events (IsFine result)
+  pub are : AreAll asked.layout.shape (terms_in asked rules) input events (λ to. IsFine result × (to ≢ at_loss))
 
 abbrev pub WroteTo : {S : Type 0} → (S → Option (List ℕ)) → (S → Bool) → Asked → Rules → (input : Option (List ℕ)) → (before after : S) → Result Tally Trouble → Type 0
 WroteTo gone_out has_failed asked rules input before after result =

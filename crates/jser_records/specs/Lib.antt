@@ -1,12 +1,15 @@
 pub mod Arriving
 pub mod Fields
 pub mod Frames
+pub mod Headers
+pub mod Held
 pub mod Inputs
 pub mod Judged
 pub mod Keys
 pub mod Lines
 pub mod Readings
 pub mod Records
+pub mod Sized
 pub mod Texts
 pub mod Told
 pub mod Words

@@ -1,15 +1,16 @@
 -- Records that are lines.
 use Rattle.std.specs.Prelude.{ℕ, ◌≡◌, ◌⊎◌, ◌+◌, ◌≤◌, ◌<◌, if◌then◌else◌, List, [], ◌∷◌, ◌++◌, length, Option, Some, None}
 use Rattle.jser_inputs.specs.declared.Form.{Form}
-use Rattle.jser_scan.specs.declared.Rules.{Rules}
 use Rattle.jser_records.specs.declared.layout.Lines.{Lines}
 use Rattle.jser_records.specs.declared.lines.Stretch.{Stretch}
+use Rattle.jser_records.specs.declared.current.Record.{Record}
 use Rattle.jser_records.specs.declared.reading.Reading.{Reading}
 use Rattle.jser_records.specs.Arriving.{Arriving, HasNone, IsOver, Took, room_size}
 use Rattle.jser_records.specs.Fields.{IsBare, IsValue}
+use Rattle.jser_records.specs.Held.{Holds, HoldsMore, Terms}
 use Rattle.jser_records.specs.Readings.{Came, IsFor, IsOfDigits, Value, none, text_of}
-use Rattle.jser_records.specs.Texts.{behind_mark, characters_in, is_null}
-use Rattle.jser_records.specs.Told.{Entry}
+use Rattle.jser_records.specs.Texts.{behind_mark, characters_in, is_null, mark_in}
+use Rattle.jser_records.specs.Told.{Entry, HandsOn}
 
 -- the byte that ends a line
 abbrev pub end_of : Lines → ℕ
@@ -17,7 +18,7 @@ end_of lines = if lines.zero then 0x00 else 0x0A
 
 -- what the characters of a field are as a value
 abbrev pub value_in : Form → List ℕ → Value
-value_in form field = if is_null field then none else text_of form (characters_in form (behind_mark form field))
+value_in form field = if is_null field then none else text_of form (mark_in form field) (characters_in form (behind_mark form field))
 
 -- This is the value of a line, which is given without its end.
 pub record IsOfLine (lines : Lines) (text : List ℕ) (value : Value) : Type 0 where
@@ -33,20 +34,21 @@ pub record IsShort (lines : Lines) (text : List ℕ) : Type 0 where
   pub digits : IsOfDigits lines.form
 
 -- its answer is right of its value
-pub record AnswersLine (lines : Lines) (rules : Rules) (most : ℕ) (text : List ℕ) (entry : Entry) : Type 0 where
+pub record AnswersLine (lines : Lines) (terms : Terms) (text : List ℕ) (entry : Entry) : Type 0 where
   pub value : Value
   pub is : IsOfLine lines text value
-  pub right : IsFor rules most entry.key.is_lost value entry.answer
+  pub right : IsFor terms.rules terms.most entry.key.is_lost value entry.answer
 
 -- This is the record of the line at the front of some bytes, and `rest` is what is behind it: a text, and the byte that ends it.
--- The last line of an input may have no end, and is then not empty.
-pub record LineOf (lines : Lines) (rules : Rules) (most : ℕ) (bytes : List ℕ) (entry : Entry) (rest : List ℕ) : Type 0 where
+-- The last line of an input may have no end, and is then not empty. Both are what is handed on of it.
+pub record LineOf (lines : Lines) (terms : Terms) (bytes : List ℕ) (entry : Entry) (rest : List ℕ) : Type 0 where
   pub text : List ℕ
   pub tail : List ℕ
   pub split : bytes ≡ (text ++ tail) ++ rest
   pub none : HasNone (end_of lines) text
   pub is : (tail ≡ end_of lines ∷ []) ⊎ ((tail ≡ []) × (0 < length text) × (rest ≡ []))
-  pub right : IsShort lines text → AnswersLine lines rules most text entry
+  pub right : IsShort lines text → AnswersLine lines terms text entry
+  pub held : HandsOn terms entry (text ++ tail)
 
 -- ---- as it is read
 
@@ -63,31 +65,39 @@ pub record FieldCame (lines : Lines) (line : List ℕ) (r : Reading) : Type 0 wh
   pub came : Came r (value_in lines.form field)
 
 -- bytes of a line were taken, without a line end
-pub record TakesText (end : ℕ) (from now : Arriving) : Type 0 where
+pub record TakesText (end : ℕ) (from now : Arriving) (old new : Record) : Type 0 where
   pub text : List ℕ
   pub took : Took from now text
   pub none : HasNone end text
+  pub held : HoldsMore old new text
 
 -- the first ones of one that is not short
-pub record TakesFirst (end : ℕ) (from now : Arriving) : Type 0 where
-  pub takes : TakesText end from now
-  pub long : room_size ≤ length takes.text + 1
+pub record TakesFirst (end : ℕ) (from now : Arriving) (r : Record) : Type 0 where
+  pub text : List ℕ
+  pub took : Took from now text
+  pub none : HasNone end text
+  pub long : room_size ≤ length text + 1
+  pub held : Holds r text
 
 -- the last bytes of a line were taken, with its end; or the input ended
-pub record TakesRest (end : ℕ) (from now : Arriving) : Type 0 where
+pub record TakesRest (end : ℕ) (from now : Arriving) (old new : Record) : Type 0 where
   pub text : List ℕ
+  pub tail : List ℕ
+  pub took : Took from now (text ++ tail)
   pub none : HasNone end text
-  pub rest : Took from now (text ++ (end ∷ [])) ⊎ (Took from now text × IsOver now)
+  pub is : (tail ≡ end ∷ []) ⊎ ((tail ≡ []) × IsOver now)
+  pub held : HoldsMore old new (text ++ tail)
 
-abbrev pub StretchTakes : (end : ℕ) → (from now : Arriving) → Option Stretch → Type 0
-StretchTakes end from now (Some next) = TakesText end from now
-StretchTakes end from now None = TakesRest end from now
+abbrev pub StretchTakes : (end : ℕ) → (from now : Arriving) → (old new : Record) → Option Stretch → Type 0
+StretchTakes end from now old new (Some next) = TakesText end from now old new
+StretchTakes end from now old new None = TakesRest end from now old new
 
 -- a line was taken
-pub record TakesLine (lines : Lines) (from now : Arriving) (r : Reading) : Type 0 where
+pub record TakesLine (lines : Lines) (from now : Arriving) (r : Record) : Type 0 where
   pub text : List ℕ
   pub tail : List ℕ
   pub took : Took from now (text ++ tail)
   pub none : HasNone (end_of lines) text
   pub is : (tail ≡ end_of lines ∷ []) ⊎ ((tail ≡ []) × (0 < length text) × IsOver now)
-  pub came : IsShort lines text → LineCame lines text r
+  pub came : IsShort lines text → LineCame lines text r.reading
+  pub held : Holds r (text ++ tail)

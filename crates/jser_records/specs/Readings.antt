@@ -1,17 +1,20 @@
 -- What was found of the bytes of a record, and of the text that spells them.
-use Rattle.std.specs.Prelude.{ℕ, ◌≡◌, ◌⊎◌, ◌+◌, ◌≤◌, ◌<◌, Bool, true, false, List, [], ◌++◌, length, Option, Some, None, IfSome}
+use Rattle.std.specs.Prelude.{ℕ, ◌≡◌, ◌⊎◌, ◌+◌, ◌-◌, ◌^◌, ◌≤◌, ◌<◌, min, Bool, true, false, List, [], ◌∷◌, ◌++◌, length, Option, Some, None, IfSome}
 use Rattle.jser_inputs.specs.declared.Form.{Form}
 use Rattle.jser_inputs.specs.declared.Form.TheVariants as form
 use Rattle.jser_inputs.specs.declared.place.Place.TheVariants as place
-use Rattle.jser_inputs.specs.declared.spot.Spot.{Spot}
+use Rattle.jser_inputs.specs.declared.InputFault.{InputFault}
+use Rattle.jser_inputs.specs.Decoding.{TextRead, misspelled}
 use Rattle.jser_inputs.specs.Places.{first_spot, is_wrong}
-use Rattle.jser_inputs.specs.Spelled.{Reads, spelled, spelling_of}
+use Rattle.jser_inputs.specs.Spelled.{Reads, no_byte, right_until, spelled, spelling_of}
+use Rattle.jser_scan.specs.declared.Found.{Found}
 use Rattle.jser_scan.specs.declared.Found.TheVariants as found
 use Rattle.jser_scan.specs.declared.Rules.{Rules}
 use Rattle.jser_scan.specs.Lines.{is_accepted}
 use Rattle.jser_records.specs.declared.answer.Answer.{Answer}
 use Rattle.jser_records.specs.declared.answer.Answer.TheVariants as answer
 use Rattle.jser_records.specs.declared.reading.Reading.{Reading}
+use Rattle.jser_records.specs.Keys.{HasAdded, HasLostKey}
 use Rattle.jser_records.specs.Judged.{HasJudged, IsRead, IsSound, Judging}
 
 -- What is answered of a record whose value is these bytes is right of them. Where a check answers, it is that of these bytes,
@@ -57,17 +60,51 @@ IsOfDigits form.Hex = Unit {0}
 IsOfDigits form.Base64 = Unit {0}
 IsOfDigits form.Base64Url = Unit {0}
 
+-- the greatest place that is told
+abbrev pub most_place : ℕ
+most_place = 2 ^ 64 - 1
+
+-- The text goes wrong, at the first character behind which no text of its form can go on; `mark` characters are before it.
+pub record GoesWrong (form : Form) (mark : ℕ) (text : List ℕ) (why : InputFault) : Type 0 where
+  pub place : why ≡ misspelled form (min (mark + right_until (first_spot form) text) most_place)
+  pub front : List ℕ
+  pub wrong : spelling_of form text ≡ front ++ (no_byte ∷ [])
+
+abbrev pub IsPlacedIn : Form → (mark : ℕ) → List ℕ → Found → Type 0
+IsPlacedIn form mark text (found.Accepted totals) = Unit {0}
+IsPlacedIn form mark text (found.Refused refusal class) = Unit {0}
+IsPlacedIn form mark text (found.Hidden from to class) = Unit {0}
+IsPlacedIn form mark text found.NotOpened = Unit {0}
+IsPlacedIn form mark text (found.NotRead why) = GoesWrong form mark text why
+IsPlacedIn form mark text found.OutOfMemory = Unit {0}
+
+-- where it is answered that a text goes wrong, it does there
+abbrev pub IsPlaced : Form → (mark : ℕ) → List ℕ → Answer → Type 0
+IsPlaced form mark text (answer.Checked result) = IsPlacedIn form mark text result
+IsPlaced form mark text answer.Null = Unit {0}
+IsPlaced form mark text (answer.Longer most) = Unit {0}
+IsPlaced form mark text answer.LongKey = Unit {0}
+IsPlaced form mark text (answer.Cut at total) = Unit {0}
+IsPlaced form mark text answer.NoLength = Unit {0}
+
+-- that is answered where a text was read to a wrong place
+abbrev pub IsWrongIn : TextRead → Answer → Type 0
+IsWrongIn decoder a = (a ≡ answer.Checked (found.NotRead (misspelled decoder.form decoder.at))) × (is_wrong decoder.spot.place ≡ true)
+
 -- It spells bytes that came, whatever comes behind it. As long as nothing is answered, those are all that it spells so far.
-pub record Spells (judge : Judging) (most room : ℕ) (result : Option Answer) (spot : Spot) (form : Form) (text : List ℕ) : Type 0 where
+pub record Spells (judge : Judging) (most room : ℕ) (result : Option Answer) (decoder : TextRead) (form : Form) (mark : ℕ) (text : List ℕ) : Type 0 where
   pub bytes : List ℕ
   pub stands : Stands judge most room result bytes
   pub begins : (more : List ℕ) → (rest : List ℕ) × (spelled (first_spot form) (text ++ more) ≡ bytes ++ rest)
   pub count : ℕ
-  pub reads : result ≡ None → Reads (first_spot form) spot text [] bytes count
-  pub right : result ≡ None → is_wrong spot.place ≡ false
+  pub reads : result ≡ None → Reads (first_spot form) decoder.spot text [] bytes count
+  pub right : result ≡ None → is_wrong decoder.spot.place ≡ false
+  pub form_is : result ≡ None → decoder.form ≡ form
+  pub at : result ≡ None → decoder.at ≡ min (mark + count) most_place
+  pub placed : IfSome result (λ a. (more : List ℕ) → IsPlaced form mark (text ++ more) a)
 
-abbrev pub HasSpelled : Reading → Form → List ℕ → Type 0
-HasSpelled r form text = Spells r.judge r.most r.room r.answer r.decoder.spot form text
+abbrev pub HasSpelled : Reading → Form → (mark : ℕ) → List ℕ → Type 0
+HasSpelled r form mark text = Spells r.judge r.most r.room r.answer r.decoder form mark text
 
 -- it is read under the rules and the limit of before
 pub record KeepsRules (old new : Reading) : Type 0 where
@@ -76,20 +113,22 @@ pub record KeepsRules (old new : Reading) : Type 0 where
 
 -- ---- a record that is read
 
--- The value of a record: none, or bytes as they are, or those that a text spells; or the input ends in it, behind so many bytes
--- of all.
+-- The value of a record: none, or bytes as they are, or those that a text spells, behind a mark of so many characters; or the input
+-- ends in it, behind so many bytes of all; or nobody knows which bytes it has.
 pub data Value : Type 0 where
   none : Value
   plain : List ℕ → Value
-  text_of : Form → List ℕ → Value
+  text_of : Form → (mark : ℕ) → List ℕ → Value
   cut_at : (at total : ℕ) → Value
+  unknown : Value
 
 -- what is answered of this value
 abbrev pub IsOf : Rules → (most : ℕ) → Value → Answer → Type 0
 IsOf rules most none a = a ≡ answer.Null
 IsOf rules most (plain bytes) a = IsRight rules most bytes a × IsOfBytes a
-IsOf rules most (text_of form text) a = IsRight rules most (spelling_of form text) a
+IsOf rules most (text_of form mark text) a = IsRight rules most (spelling_of form text) a × IsPlaced form mark text a
 IsOf rules most (cut_at at total) a = a ≡ answer.Cut at total
+IsOf rules most unknown a = a ≡ answer.NoLength
 
 -- so it is, unless there is no memory, or the KEY is too long
 abbrev pub IsFor : Rules → (most : ℕ) → (is_lost : Bool) → Value → Answer → Type 0
@@ -107,28 +146,35 @@ pub record IsLonger (r : Reading) (total : ℕ) : Type 0 where
   pub more : r.most < total
   pub place : r.decoder.spot.place ≡ place.Bytes
 
+-- its KEY is too long
+pub record HasLost (r : Reading) : Type 0 where
+  pub long : r.answer ≡ Some answer.LongKey
+  pub lost : r.key.is_lost ≡ true
+  pub place : r.decoder.spot.place ≡ place.Bytes
+
 -- they came so far
 abbrev pub Counts : Reading → (total : ℕ) → List ℕ → Type 0
-Counts r total bytes = HasPlain r bytes ⊎ IsLonger r total
+Counts r total bytes = HasPlain r bytes ⊎ (IsLonger r total ⊎ HasLost r)
 
 -- the value of the record that is read came
 abbrev pub HasCome : Reading → Value → Type 0
 HasCome r none = r.answer ≡ Some answer.Null
 HasCome r (plain bytes) = HasPlain r bytes
-HasCome r (text_of form text) = HasSpelled r form text
+HasCome r (text_of form mark text) = HasSpelled r form mark text
 HasCome r (cut_at at total) = r.answer ≡ Some (answer.Cut at total)
+HasCome r unknown = r.answer ≡ Some answer.NoLength
 
 abbrev pub Came : Reading → Value → Type 0
 Came r value = HasCome r value ⊎ ((r.answer ≡ Some (answer.Checked found.OutOfMemory)) ⊎ ((r.answer ≡ Some answer.LongKey) × (r.key.is_lost ≡ true)))
 
 -- more of its KEY came, which did not change what is answered; or the KEY is too long, and that is the answer
-abbrev pub AddsKey : (old new : Reading) → Type 0
-AddsKey old new =
-    ((new ≡ record old { key = new.key }) × (old.key.is_lost ≡ false))
-    ⊎ ((new ≡ record old { key = new.key; answer = Some answer.LongKey }) × (new.key.is_lost ≡ true))
+abbrev pub AddsKey : (old new : Reading) → List ℕ → Type 0
+AddsKey old new bytes =
+    ((new ≡ record old { key = new.key }) × HasAdded old.key new.key bytes)
+    ⊎ ((new ≡ record old { key = new.key; answer = Some answer.LongKey }) × HasLostKey new.key)
 
 -- no character of a value in this form came so far; or it is answered why there is none
 abbrev pub IsReady : Reading → Form → Type 0
 IsReady r form =
-    ((r.answer ≡ None) × HasSpelled r form [])
+    ((r.answer ≡ None) × HasSpelled r form 0 [])
     ⊎ ((r.answer ≡ Some (answer.Checked found.OutOfMemory)) ⊎ ((r.answer ≡ Some answer.LongKey) × (r.key.is_lost ≡ true)))

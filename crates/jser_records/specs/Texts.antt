@@ -39,3 +39,10 @@ behind_mark form.Binary text = text
 behind_mark form.Hex text = drop (mark_size text) text
 behind_mark form.Base64 text = text
 behind_mark form.Base64Url text = text
+
+-- how long the mark is in this form
+abbrev pub mark_in : Form → List ℕ → ℕ
+mark_in form.Binary text = 0
+mark_in form.Hex text = mark_size text
+mark_in form.Base64 text = 0
+mark_in form.Base64Url text = 0

@@ -1,27 +1,19 @@
 -- What is told of records, one after another: on standard output, and on standard error.
-use Rattle.std.specs.Prelude.{ℕ, ◌≡◌, Bool, true, false, ◌&&◌, not, if◌then◌else◌, List, [], ◌∷◌, ◌++◌, Option}
+use Rattle.std.specs.Prelude.{ℕ, ◌≡◌, Bool, true, ◌⊎◌, ◌&&◌, not, if◌then◌else◌, List, [], ◌∷◌, ◌++◌, Option}
 use Rattle.jser_prim.specs.Outgoing.{SinkState, sink_state}
 use Rattle.jser_printer.specs.Says.{Says}
+use Rattle.jser_scan.specs.declared.Found.TheVariants as found
 use Rattle.jser_scan.specs.declared.How.{How}
 use Rattle.jser_scan.specs.declared.Tally.{Tally}
-use Rattle.jser_scan.specs.Lines.{is_accepted}
 use Rattle.jser_scan.specs.Tallies.{noted, one_accepted, one_unread, one_more}
 use Rattle.jser_records.specs.declared.answer.Answer.{Answer}
 use Rattle.jser_records.specs.declared.answer.Answer.TheVariants as answer
 use Rattle.jser_records.specs.declared.clerk.Clerk.{Clerk}
 use Rattle.jser_records.specs.declared.key.Key.{Key}
-use Rattle.jser_records.specs.Keys.{KeepsKey}
-use Rattle.jser_records.specs.Readings.{Came, IsFor, KeepsRules, Value}
+use Rattle.jser_records.specs.Held.{Keeps, Terms, may_pass, passes}
+use Rattle.jser_records.specs.Keys.{HasNoKey, IsKeyOf, KeepsKey}
+use Rattle.jser_records.specs.Readings.{Came, IsFor, Value}
 use Rattle.jser_records.specs.Words.{line_words, object_words}
-
--- it lets a record pass: it is accepted, or has no value
-abbrev pub passes : Answer → Bool
-passes (answer.Checked result) = is_accepted result
-passes answer.Null = true
-passes (answer.Longer most) = false
-passes answer.LongKey = false
-passes (answer.Cut at total) = false
-passes answer.NoLength = false
 
 -- the counts with one record more
 abbrev pub counted : Tally → Answer → Tally
@@ -39,6 +31,14 @@ pub record Entry : Type 0 where
   pub answer : Answer
   pub held : List ℕ
 
+-- where records are handed on and this one passes, that is these bytes
+abbrev pub HandsOn : Terms → Entry → List ℕ → Type 0
+HandsOn terms entry raw = terms.hands_on ≡ true → passes entry.answer ≡ true → entry.held ≡ raw
+
+-- this is the KEY that is told of it, unless that is too long or there was no memory
+abbrev pub KeyTold : Entry → Option (List ℕ) → Type 0
+KeyTold entry has = IsKeyOf entry.key has ⊎ (HasNoKey entry.key × (entry.answer ≡ answer.Checked found.OutOfMemory))
+
 -- its line, or its object
 abbrev pub entry_words : (json : Bool) → (number : ℕ) → Key → (units : List ℕ) → Answer → List ℕ → List ℕ
 entry_words json number key units result k = if json then object_words number key units result k else line_words number key units result k
@@ -54,28 +54,38 @@ put_of how hands_on number key units result held k =
 abbrev pub told_of : How → (hands_on : Bool) → (number : ℕ) → Key → (units : List ℕ) → Answer → List ℕ → List ℕ
 told_of how hands_on number key units result k = if hands_on && not (passes result) then entry_words how.json number key units result k else k
 
--- A record ended; or bytes behind one that passes were handed on with it.
+-- A record ended; or bytes behind one that passes were handed on with it; or bytes were passed over that are no part of one that
+-- passes.
 pub data Event : Type 0 where
   ended : Entry → Event
   behind : List ℕ → Event
+  passed_over : List ℕ → Event
+
+-- bytes behind a record, which passed or not
+abbrev pub behind_it : (passed : Bool) → List ℕ → Event
+behind_it passed bytes = if passed then behind bytes else passed_over bytes
 
 -- ---- of one event after another, where so many records ended before
 
 abbrev pub number_after : ℕ → Event → ℕ
 number_after number (ended e) = one_more number
 number_after number (behind bytes) = number
+number_after number (passed_over bytes) = number
 
 abbrev pub put_event : How → Bool → ℕ → Event → List ℕ → List ℕ
 put_event how hands_on number (ended e) k = put_of how hands_on number e.key e.units e.answer e.held k
 put_event how hands_on number (behind bytes) k = if hands_on then bytes ++ k else k
+put_event how hands_on number (passed_over bytes) k = k
 
 abbrev pub told_event : How → Bool → ℕ → Event → List ℕ → List ℕ
 told_event how hands_on number (ended e) k = told_of how hands_on number e.key e.units e.answer k
 told_event how hands_on number (behind bytes) k = k
+told_event how hands_on number (passed_over bytes) k = k
 
 abbrev pub counted_event : Tally → Event → Tally
 counted_event tally (ended e) = counted tally e.answer
 counted_event tally (behind bytes) = tally
+counted_event tally (passed_over bytes) = tally
 
 abbrev pub number_at_end : ℕ → List Event → ℕ
 number_at_end number [] = number
@@ -102,26 +112,22 @@ pub record SaysAll (old new : Clerk) (before after : SinkState) (told_before tol
   pub how : new.how ≡ old.how
   pub passes : new.passes ≡ old.passes
 
--- some events came
-pub record Goes (old new : Clerk) (before after : SinkState) (told_before told_after : SinkState) : Type 0 where
-  pub events : List Event
-  pub says : SaysAll old new before after told_before told_after events
-
--- none came, and the record that is read stays under its rules
+-- none came, and the record that is read stays under its terms
 pub record Quiet (old new : Clerk) (before after : SinkState) (told_before told_after : SinkState) : Type 0 where
   pub says : SaysAll old new before after told_before told_after []
-  pub keeps : KeepsRules old.current.reading new.current.reading
+  pub keeps : Keeps old.current new.current
 
 abbrev pub QuietTo : {S T : Type 0} → (S → Option (List ℕ)) → (S → Bool) → (T → Option (List ℕ)) → (T → Bool) → (old new : Clerk) → (before after : S) → (told_before told_after : T) → Type 0
 QuietTo gone_out has_failed told_out told_failed old new before after told_before told_after =
     Quiet old new (sink_state (gone_out before) (has_failed before)) (sink_state (gone_out after) (has_failed after))
     (sink_state (told_out told_before) (told_failed told_before)) (sink_state (told_out told_after) (told_failed told_after))
 
--- the same of devices, by what they tell
-abbrev pub GoesTo : {S T : Type 0} → (S → Option (List ℕ)) → (S → Bool) → (T → Option (List ℕ)) → (T → Bool) → (old new : Clerk) → (before after : S) → (told_before told_after : T) → Type 0
-GoesTo gone_out has_failed told_out told_failed old new before after told_before told_after =
-    Goes old new (sink_state (gone_out before) (has_failed before)) (sink_state (gone_out after) (has_failed after))
-    (sink_state (told_out told_before) (told_failed told_before)) (sink_state (told_out told_after) (told_failed told_after))
+-- events came to devices that tell what they were given
+abbrev pub SaysAllTo : {S T : Type 0} → (S → Option (List ℕ)) → (S → Bool) → (T → Option (List ℕ)) → (T → Bool) → (old new : Clerk) → (before after : S) → (told_before told_after : T)
+    → List Event → Type 0
+SaysAllTo gone_out has_failed told_out told_failed old new before after told_before told_after events =
+    SaysAll old new (sink_state (gone_out before) (has_failed before)) (sink_state (gone_out after) (has_failed after))
+    (sink_state (told_out told_before) (told_failed told_before)) (sink_state (told_out told_after) (told_failed told_after)) events
 
 -- One record ended. Its answer is right of the value that came of it, and the bytes are those that were kept.
 pub record Closes (old new : Clerk) (before after : SinkState) (told_before told_after : SinkState) (result : Bool) : Type 0 where
@@ -129,9 +135,10 @@ pub record Closes (old new : Clerk) (before after : SinkState) (told_before told
   pub says : SaysAll old new before after told_before told_after (ended entry ∷ [])
   pub held : entry.held ≡ old.current.held.items
   pub passed : result ≡ passes entry.answer
+  pub may : passes entry.answer ≡ true → may_pass old.current.reading.answer ≡ true
   pub right : (value : Value) → Came old.current.reading value → IsFor old.current.reading.judge.rules old.current.reading.most entry.key.is_lost value entry.answer
-  pub keeps : KeepsRules old.current.reading new.current.reading
-  pub key : KeepsKey old.current.reading.key entry.key
+  pub keeps : Keeps old.current new.current
+  pub key : KeepsKey old.current.reading.key entry.key entry.answer
 
 abbrev pub ClosesTo : {S T : Type 0} → (S → Option (List ℕ)) → (S → Bool) → (T → Option (List ℕ)) → (T → Bool) → (old new : Clerk) → (before after : S) → (told_before told_after : T) → (passed : Bool) → Type 0
 ClosesTo gone_out has_failed told_out told_failed old new before after told_before told_after passed =

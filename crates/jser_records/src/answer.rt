@@ -29,7 +29,7 @@ pub enum Answer {
 
 impl Answer {
     ghost use Rattle.std.specs.Prelude.{◌≡◌};
-    ghost use Rattle.jser_records.specs.Told.{passes};
+    ghost use Rattle.jser_records.specs.Held.{passes};
 
     /// Whether it lets the record pass: it is accepted, or has no value.
     pub(crate) fn passes(&self) -> bool

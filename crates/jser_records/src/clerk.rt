@@ -1,8 +1,9 @@
 //! What is done with a record that has ended: its answer is written, or the record itself, and it counts.
-ghost use Rattle.std.specs.Prelude.{◌≡◌, [], false, IfOk, OnOk, OnErr, true};
+ghost use Rattle.std.specs.Prelude.{◌≡◌, [], ◌∷◌, false, IfOk, OnOk, OnErr, true};
 ghost use Rattle.jser_printer.specs.Says.{SaysTo};
 ghost use Rattle.jser_scan.specs.Tallies.{no_files};
-ghost use Rattle.jser_records.specs.Told.{ClosesTo, GoesTo, QuietTo, counted, entry_words, put_of, told_of};
+ghost use Rattle.jser_records.specs.Held.{terms_of};
+ghost use Rattle.jser_records.specs.Told.{ClosesTo, QuietTo, SaysAllTo, behind_it, counted, entry_words, put_of, told_of};
 
 use crate::answer::Answer;
 use crate::current::{Ended, Record};
@@ -39,8 +40,7 @@ impl<'f> Clerk<'f> {
         ensures passes { IfOk result (λ clerk. clerk.passes ≡ passes) }
         ensures number { IfOk result (λ clerk. clerk.number ≡ 0) }
         ensures tally { IfOk result (λ clerk. clerk.tally ≡ no_files) }
-        ensures rules { IfOk result (λ clerk. clerk.current.reading.judge.rules ≡ rules.now) }
-        ensures most { IfOk result (λ clerk. clerk.current.reading.most ≡ most) }
+        ensures terms { IfOk result (λ clerk. terms_of clerk.current ≡ record { rules = rules.now; most = most; hands_on = passes }) }
         ensures output { IfOk result (λ clerk. clerk.output ≡ record { waiting = []; written = 0; failed = false }) }
     {
         match Record::new(alloc, rules, passes, most) {
@@ -61,7 +61,6 @@ impl<'f> Clerk<'f> {
     /// accepted.
     pub(crate) fn close<W: Sink, E: Sink>(&mut self, output: &mut W, faults: &mut E) -> bool
         ensures closes { ClosesTo W.gone_out W.has_failed E.gone_out E.has_failed self.old self.new output.old output.new faults.old faults.new result }
-        ensures goes { GoesTo W.gone_out W.has_failed E.gone_out E.has_failed self.old self.new output.old output.new faults.old faults.new }
     {
         let ended = self.current.finish(self.how.json);
         put_record(
@@ -87,24 +86,30 @@ impl<'f> Clerk<'f> {
         ended.answer.passes()
     }
 
-    /// Hands on bytes behind a record that was passed on.
-    #[tactic(auto, using(crate::proofs::ToldLemmas::goes_none))]
-    pub(crate) fn pass_on<W: Sink, E: Sink>(&mut self, output: &mut W, faults: &mut E, bytes: &[u8])
-        ensures { GoesTo W.gone_out W.has_failed E.gone_out E.has_failed self.old self.new output.old output.new faults.old faults.new }
+    /// Bytes are behind a record: they are handed on with one that passed, else passed over.
+    #[tactic(auto, using(crate::proofs::ToldLemmas::said_behind, crate::proofs::ToldLemmas::said_over))]
+    pub(crate) fn pass_on<W: Sink, E: Sink>(
+        &mut self,
+        output: &mut W,
+        faults: &mut E,
+        bytes: &[u8],
+        passed: bool,
+    )
+        ensures says { SaysAllTo W.gone_out W.has_failed E.gone_out E.has_failed self.old self.new output.old output.new faults.old faults.new (behind_it passed bytes.now ∷ []) }
+        ensures current { self.new.current ≡ self.old.current }
     {
-        if self.passes {
+        if passed && self.passes {
             write(&mut self.output, output, bytes);
         }
     }
 
     /// Hands all that waits to the devices.
-    #[tactic(auto, using(crate::proofs::ToldLemmas::goes_flushed, crate::proofs::ToldLemmas::quiet_flushed))]
+    #[tactic(auto, using(crate::proofs::ToldLemmas::quiet_flushed))]
     pub(crate) fn flush<W: Sink, E: Sink>(
         &mut self,
         output: &mut W,
         faults: &mut E,
     ) -> Result<(), Failed>
-        ensures goes { GoesTo W.gone_out W.has_failed E.gone_out E.has_failed self.old self.new output.old output.new faults.old faults.new }
         ensures quiet { QuietTo W.gone_out W.has_failed E.gone_out E.has_failed self.old self.new output.old output.new faults.old faults.new }
         ensures current { self.new.current ≡ self.old.current }
         ensures empty { self.new.output.failed ≡ false → self.new.output.waiting ≡ [] }

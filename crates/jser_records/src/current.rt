@@ -1,7 +1,8 @@
 //! The record that is read, and the bytes that came of it, where these may be handed on.
-ghost use Rattle.std.specs.Prelude.{◌≡◌, ◌⊎◌, ◌++◌, ◌<◌, ◌^◌, ℕ, List, [], length, Some, None, IfOk, IfSome};
+ghost use Rattle.std.specs.Prelude.{◌≡◌, ◌⊎◌, ◌++◌, ◌<◌, ◌^◌, ℕ, List, [], length, true, false, Some, None, IfOk, IfSome};
 ghost use Rattle.jser_inputs.specs.declared.Form.{Form as ToldForm};
 ghost use Rattle.jser_inputs.specs.Places.{first_place};
+ghost use Rattle.jser_records.specs.Held.{Holds, HoldsMore, HoldsSame, Keeps, may_pass, passes};
 ghost use Rattle.jser_records.specs.Keys.{HasNoKey, KeepsKey};
 ghost use Rattle.jser_records.specs.Readings.{Came, Counts, HasRead, HasSpelled, IsFor, IsOfDigits, KeepsRules};
 ghost use Rattle.jser_records.specs.Readings.{Value as ToldValue};
@@ -47,6 +48,7 @@ impl<'f> Record<'f> {
     ) -> Result<Record<'f>, AllocError>
         ensures rules { IfOk result (λ made. made.reading.judge.rules ≡ rules.now) }
         ensures most { IfOk result (λ made. made.reading.most ≡ most) }
+        ensures passes { IfOk result (λ made. made.passes ≡ passes) }
     {
         match Reading::new(alloc, rules, most) {
             Ok(reading) => Record::over(alloc, reading, passes),
@@ -54,9 +56,10 @@ impl<'f> Record<'f> {
         }
     }
 
-    /// The same with this reading.
+    /// A record that is read by this reading, with room for the text of its value.
     fn over(alloc: Global, reading: Reading<'f>, passes: bool) -> Result<Record<'f>, AllocError>
-        ensures { IfOk result (λ made. made.reading ≡ reading.entry) }
+        ensures reading { IfOk result (λ made. made.reading ≡ reading.entry) }
+        ensures passes { IfOk result (λ made. made.passes ≡ passes) }
     {
         match Vec::with_capacity(alloc, ROOM) {
             Ok(text) => Ok(Record {
@@ -71,27 +74,32 @@ impl<'f> Record<'f> {
     }
 
     /// Begins the next record.
+    #[tactic(auto, using(crate::proofs::HeldLemmas::keeps_rules))]
     pub(crate) fn begin(&mut self, form: Form)
         ensures has { HasRead self.new.reading [] }
-        ensures spelled { HasSpelled self.new.reading form [] }
+        ensures spelled { HasSpelled self.new.reading form 0 [] }
         ensures open { self.new.reading.answer ≡ None }
         ensures place { self.new.reading.decoder.spot.place ≡ first_place form }
         ensures key { HasNoKey self.new.reading.key }
-        ensures rules { KeepsRules self.old.reading self.new.reading }
+        ensures keeps { Keeps self.old self.new }
+        ensures held { Holds self.new [] }
     {
         self.held.clear();
         self.reading.begin(form);
     }
 
     /// Keeps bytes of the record, as they came, as long as it may be handed on.
+    #[tactic(auto, using(crate::proofs::HeldLemmas::keeps_held, crate::proofs::HeldLemmas::holds_off, crate::proofs::HeldLemmas::holds_refused))]
     pub(crate) fn hold(&mut self, bytes: &[u8])
-        ensures answered { IfSome self.old.reading.answer (λ a. self.new.reading ≡ self.old.reading) }
+        ensures refused { may_pass self.old.reading.answer ≡ false → self.new.reading ≡ self.old.reading }
         ensures kept { (self.new.reading ≡ self.old.reading) ⊎ (self.new.reading ≡ record self.old.reading { answer = Some (Answer.Checked Found.OutOfMemory) }) }
+        ensures keeps { Keeps self.old self.new }
+        ensures held { HoldsMore self.old self.new bytes.now }
     {
         if !self.passes {
             return;
         }
-        if self.reading.is_answered() {
+        if !self.reading.may_pass() {
             self.held.clear();
         } else if self.held.extend_from_slice(bytes).is_err() {
             self.held.clear();
@@ -100,9 +108,11 @@ impl<'f> Record<'f> {
     }
 
     /// Takes more bytes of the value, as they are.
+    #[tactic(auto, using(crate::proofs::HeldLemmas::keeps_rules, crate::proofs::HeldLemmas::keeps_both))]
     pub(crate) fn take(&mut self, bytes: &[u8])
         ensures counts { (total : ℕ) (before : List ℕ) → Counts self.old.reading total before → Counts self.new.reading total (before ++ bytes.now) }
-        ensures rules { KeepsRules self.old.reading self.new.reading }
+        ensures keeps { Keeps self.old self.new }
+        ensures held { HoldsMore self.old self.new bytes.now }
         ensures key { self.new.reading.key ≡ self.old.reading.key }
     {
         self.hold(bytes);
@@ -110,12 +120,14 @@ impl<'f> Record<'f> {
     }
 
     /// Takes more characters of the value, which become the bytes that they spell.
+    #[tactic(auto, using(crate::proofs::HeldLemmas::keeps_rules, crate::proofs::HeldLemmas::holds_answered))]
     pub(crate) fn spell(&mut self, form: Form, text: &[u8])
-        ensures spelled { (before : List ℕ) → IsOfDigits form → length (before ++ text.now) < 2 ^ 63 → HasSpelled self.old.reading form before
-            → HasSpelled self.new.reading form (before ++ characters_in form text.now) }
+        ensures spelled { (mark : ℕ) (before : List ℕ) → IsOfDigits form → length (before ++ text.now) < 2 ^ 63 → HasSpelled self.old.reading form mark before
+            → HasSpelled self.new.reading form mark (before ++ characters_in form text.now) }
         ensures answered { IfSome self.old.reading.answer (λ a. self.new.reading ≡ self.old.reading) }
         ensures key { self.new.reading.key ≡ self.old.reading.key }
-        ensures rules { KeepsRules self.old.reading self.new.reading }
+        ensures keeps { Keeps self.old self.new }
+        ensures held { HoldsSame self.old self.new }
     {
         if self.reading.is_answered() {
             return;
@@ -136,12 +148,13 @@ impl<'f> Record<'f> {
     }
 
     /// The record has ended: its answer. Where there is no memory for the units of its KEY, that is the answer, and it has no KEY.
-    #[tactic(auto, using(crate::proofs::ReadingLemmas::finish_for))]
+    #[tactic(auto, using(crate::proofs::HeldLemmas::finished_passes, crate::proofs::HeldLemmas::keeps_rules, crate::proofs::ReadingLemmas::finish_for))]
     pub(crate) fn finish(&mut self, json: bool) -> Ended
         ensures held { self.new.held.items ≡ self.old.held.items }
         ensures right { (value : ToldValue) → Came self.old.reading value → IsFor self.old.reading.judge.rules self.old.reading.most self.new.reading.key.is_lost value result.answer }
-        ensures key { KeepsKey self.old.reading.key self.new.reading.key }
-        ensures rules { KeepsRules self.old.reading self.new.reading }
+        ensures passes { passes result.answer ≡ true → may_pass self.old.reading.answer ≡ true }
+        ensures key { KeepsKey self.old.reading.key self.new.reading.key result.answer }
+        ensures keeps { Keeps self.old self.new }
     {
         let answer = self.reading.finish();
         match self.units(json) {
@@ -169,8 +182,8 @@ impl<'f> Record<'f> {
 
 /// Takes more characters, in room where they become the bytes that they spell.
 fn spell_over(reading: &mut Reading<'_>, form: Form, text: &mut [u8])
-    ensures spelled { (before : List ℕ) → IsOfDigits form → length (before ++ text.old) < 2 ^ 63 → HasSpelled reading.old form before
-        → HasSpelled reading.new form (before ++ characters_in form text.old) }
+    ensures spelled { (mark : ℕ) (before : List ℕ) → IsOfDigits form → length (before ++ text.old) < 2 ^ 63 → HasSpelled reading.old form mark before
+        → HasSpelled reading.new form mark (before ++ characters_in form text.old) }
     ensures answered { IfSome reading.old.answer (λ a. reading.new ≡ reading.old) }
     ensures key { reading.new.key ≡ reading.old.key }
     ensures rules { KeepsRules reading.old reading.new }

@@ -1,10 +1,11 @@
 //! Records that are frames: a length in 4 bytes, highest first, and so many bytes.
 
-ghost use Rattle.std.specs.Prelude.{◌≡◌, ◌<◌, ◌≤◌, ℕ, List, [], length, IfOk, IfSome, OnOk, Ok, false};
+ghost use Rattle.std.specs.Prelude.{◌≡◌, ◌⊎◌, ◌<◌, ◌≤◌, ℕ, List, [], length, IfOk, IfSome, OnOk, Ok, false};
 ghost use Rattle.std.specs.Io.KnownBytes.{IsAtEnd};
 ghost use Rattle.jser_records.specs.Arriving.{IsOver};
 ghost use Rattle.jser_records.specs.Frames.{Begun, PieceTakes, Takes, TakesSome, TakesValue};
-ghost use Rattle.jser_records.specs.Readings.{Counts, HasPlain, KeepsRules};
+ghost use Rattle.jser_records.specs.Held.{Keeps};
+ghost use Rattle.jser_records.specs.Readings.{Counts, HasLost, HasPlain};
 ghost use Rattle.jser_records.specs.Records.{RecordsGoTo, RecordsTo};
 ghost use Rattle.jser_records.specs.Told.{QuietTo};
 ghost use Rattle.jser_records.specs.declared.layout.Shape.TheVariants as Shape;
@@ -130,7 +131,7 @@ fn take_value<R: Source, W: Sink, E: Sink>(
 ) -> Result<(), Trouble>
     ensures quiet { QuietTo W.gone_out W.has_failed E.gone_out E.has_failed clerk.old clerk.new output.old output.new faults.old faults.new }
     ensures key { clerk.new.current.reading.key ≡ clerk.old.current.reading.key }
-    ensures takes { Begun clerk.old.current.reading → OnOk result (TakesValue length inbox.old inbox.new clerk.new.current.reading) }
+    ensures takes { Begun clerk.old.current.reading → OnOk result (TakesValue length inbox.old inbox.new clerk.old.current clerk.new.current) }
 {
     if length == NULL {
         clerk.current.reading.decide_null();
@@ -150,7 +151,8 @@ pub(crate) fn take_bytes<R: Source, W: Sink, E: Sink>(
 ) -> Result<(), Trouble>
     ensures quiet { QuietTo W.gone_out W.has_failed E.gone_out E.has_failed clerk.old clerk.new output.old output.new faults.old faults.new }
     ensures key { clerk.new.current.reading.key ≡ clerk.old.current.reading.key }
-    ensures takes { HasPlain clerk.old.current.reading [] → OnOk result (Takes count inbox.old inbox.new clerk.new.current.reading) }
+    ensures takes { HasPlain clerk.old.current.reading [] ⊎ HasLost clerk.old.current.reading → OnOk result (Takes count inbox.old inbox.new clerk.old.current clerk.new.current) }
+    ensures sought { OnOk result (inbox.new.sought ≡ inbox.old.sought) }
 {
     clerk.current.reading.limit(count);
     let mut taken: u64 = 0;
@@ -188,8 +190,9 @@ fn next_piece<R: Source, W: Sink, E: Sink>(
     ensures quiet { QuietTo W.gone_out W.has_failed E.gone_out E.has_failed clerk.old clerk.new output.old output.new faults.old faults.new }
     ensures key { clerk.new.current.reading.key ≡ clerk.old.current.reading.key }
     ensures takes { (total : ℕ) (before : List ℕ) → Counts clerk.old.current.reading total before
-        → IfOk result (PieceTakes total before inbox.old inbox.new clerk.new.current.reading) }
+        → IfOk result (PieceTakes total before inbox.old inbox.new clerk.old.current clerk.new.current) }
     ensures within { IfOk result (λ size. IfSome size (λ count. count ≤ left)) }
+    ensures sought { OnOk result (inbox.new.sought ≡ inbox.old.sought) }
 {
     let size = take_waiting(inbox, &mut clerk.current, left);
     if size > 0 {
@@ -206,8 +209,9 @@ fn next_piece<R: Source, W: Sink, E: Sink>(
 fn take_waiting<R: Source>(inbox: &mut Inbox<R>, current: &mut Record<'_>, left: u64) -> u64
     ensures within { result ≤ left }
     ensures none { result ≡ 0 → 0 < left → inbox.new.waiting ≡ [] }
-    ensures takes { (total : ℕ) (before : List ℕ) → Counts current.old.reading total before → TakesSome total before inbox.old inbox.new current.new.reading result }
-    ensures rules { KeepsRules current.old.reading current.new.reading }
+    ensures sought { inbox.new.sought ≡ inbox.old.sought }
+    ensures takes { (total : ℕ) (before : List ℕ) → Counts current.old.reading total before → TakesSome total before inbox.old inbox.new current.old current.new result }
+    ensures keeps { Keeps current.old current.new }
     ensures key { current.new.reading.key ≡ current.old.reading.key }
 {
     let most = left.min(u64::from(u32::MAX)) as usize;

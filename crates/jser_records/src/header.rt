@@ -1,6 +1,7 @@
 //! The line before the bytes of a record: it ends in their number, and what is before that is the KEY.
 
-ghost use Rattle.std.specs.Prelude.{◌≤◌, length};
+ghost use Rattle.std.specs.Prelude.{◌≡◌, ◌≤◌, ◌<◌, ◌++◌, ◌∷◌, ℕ, List, [], All, None, IfSome, if◌then◌else◌, length, take, drop};
+ghost use Rattle.jser_records.specs.Headers.{EndsIn, EndsKey, IsDigit, IsHeader, NullKey, is_reply, number_from};
 
 /// What a line says of the record behind it.
 #[derive(Clone, Copy, PartialEq, Eq, Debug)]
@@ -27,24 +28,30 @@ pub(crate) enum Header {
 const DIGITS: usize = 18;
 
 /// What a line says, without its end.
-pub(crate) fn header_of(line: &[u8]) -> Header {
-    let (front, number) = line.split_at(number_start(line));
-    match front {
-        _ if number.is_empty() || number.len() > DIGITS => without_length(line),
-        [before @ .., b'-'] if number == b"1".as_slice() && ends_key(before) => Header::Null {
-            key: before.len().saturating_sub(1),
-        },
-        _ if ends_key(front) => Header::Bytes {
-            key: front.len().saturating_sub(1),
-            count: value_of(number),
-        },
-        _ => without_length(line),
+#[tactic(auto, using(crate::proofs::HeaderLemmas::says_null, crate::proofs::HeaderLemmas::says_none))]
+pub(crate) fn header_of(line: &[u8]) -> Header
+    ensures { IsHeader line.now result }
+{
+    let (front, digits) = line.split_at(number_start(line));
+    if digits.is_empty() || digits.len() > DIGITS {
+        return without_length(line);
+    }
+    if let Some(key) = key_end(front) {
+        return Header::Bytes {
+            key,
+            count: value_of(digits),
+        };
+    }
+    match null_key_end(front, digits) {
+        Some(key) => Header::Null { key },
+        None => without_length(line),
     }
 }
 
 /// Where the digits at the end of a line begin.
 fn number_start(line: &[u8]) -> usize
-    ensures { result ≤ length line.now }
+    ensures within { result ≤ length line.now }
+    ensures ends { EndsIn line.now (take result line.now) (drop result line.now) }
 {
     let mut at = line.len();
     'digits: while at > 0 && line[at - 1].is_ascii_digit() {
@@ -53,24 +60,61 @@ fn number_start(line: &[u8]) -> usize
     at
 }
 
-/// Whether a length may stand behind this.
-fn ends_key(front: &[u8]) -> bool {
+/// The end of the KEY, if a length may stand behind this.
+fn key_end(front: &[u8]) -> Option<usize>
+    ensures key { IfSome result (λ key. EndsKey front.now (take key front.now)) }
+    ensures within { IfSome result (λ key. key ≤ length front.now) }
+    ensures none { result ≡ None → (key : List ℕ) → EndsKey front.now key → ⊥ }
+{
     match front {
-        [] | [.., b' '] | [.., b'\t'] | [.., b'$'] => true,
-        _ => false,
+        [] => Some(0),
+        [key @ .., b' ' | b'\t' | b'$'] => Some(key.len()),
+        _ => None,
+    }
+}
+
+/// The end of the KEY, if the length is -1.
+#[tactic(auto, using(crate::proofs::HeaderLemmas::null_key, crate::proofs::HeaderLemmas::no_null_key))]
+fn null_key_end(front: &[u8], digits: &[u8]) -> Option<usize>
+    ensures key { IfSome result (λ key. NullKey front.now digits.now key) }
+    ensures none { result ≡ None → (before key : List ℕ) → front.now ≡ before ++ (0x2D ∷ []) → digits.now ≡ 0x31 ∷ [] → EndsKey before key → ⊥ }
+{
+    if digits != b"1".as_slice() {
+        return None;
+    }
+    match before_minus(front) {
+        Some(before) => key_end(before),
+        None => None,
+    }
+}
+
+/// What is before the minus sign at the end.
+fn before_minus(front: &[u8]) -> Option<&[u8]>
+    ensures minus { IfSome result (λ before. front.now ≡ before.now ++ (0x2D ∷ [])) }
+    ensures none { result ≡ None → (before : List ℕ) → front.now ≡ before ++ (0x2D ∷ []) → ⊥ }
+{
+    match front {
+        [before @ .., b'-'] => Some(before),
+        _ => None,
     }
 }
 
 /// What a line says that has no length.
-fn without_length(line: &[u8]) -> Header {
+fn without_length(line: &[u8]) -> Header
+    ensures { result ≡ (if is_reply line.now then Header.Other else Header.NoLength) }
+{
     match line {
-        [] | [b'*', ..] | [b'+', ..] | [b'-', ..] | [b':', ..] | b"END" => Header::Other,
+        [] | [b'*' | b'+' | b'-' | b':', ..] | [b'E', b'N', b'D'] => Header::Other,
         _ => Header::NoLength,
     }
 }
 
 /// The number of at most 18 digits.
-fn value_of(digits: &[u8]) -> u64 {
+fn value_of(digits: &[u8]) -> u64
+    requires digits { All IsDigit digits.now }
+    requires few { length digits.now ≤ 18 }
+    ensures { result ≡ number_from 0 digits.now }
+{
     let mut number: u64 = 0;
     'digits: for digit in digits {
         number = number

@@ -1,7 +1,7 @@
 //! The KEY of a record: what its line has beside the value.
 
 ghost use Rattle.std.specs.Prelude.{◌≡◌, true, false};
-ghost use Rattle.jser_records.specs.Keys.{HasNoKey};
+ghost use Rattle.jser_records.specs.Keys.{HasAdded, HasLostKey, HasNoKey};
 
 use std::alloc::{AllocError, Global};
 use std::str;
@@ -39,8 +39,8 @@ impl Key {
 
     /// Adds a front of the KEY, or what is behind it. `false` where it is too long: then it is lost.
     pub(crate) fn add(&mut self, bytes: &[u8]) -> bool
-        ensures lost { result ≡ false → self.new.is_lost ≡ true }
-        ensures kept { result ≡ true → self.old.is_lost ≡ false }
+        ensures lost { result ≡ false → HasLostKey self.new }
+        ensures added { result ≡ true → HasAdded self.old self.new bytes.now }
     {
         let room = MOST.saturating_sub(self.bytes.len());
         if self.is_lost || bytes.len() > room || self.bytes.extend_from_slice(bytes).is_err() {
@@ -53,7 +53,7 @@ impl Key {
 
     /// Loses it, as it is too long: the record's number stands for it.
     pub(crate) fn lose(&mut self)
-        ensures { self.new.is_lost ≡ true }
+        ensures { HasLostKey self.new }
     {
         self.clear();
         self.is_lost = true;

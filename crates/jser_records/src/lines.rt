@@ -1,15 +1,16 @@
 //! Records that are lines of text. A line is taken whole where it fits the room for what waits, else piece after piece.
 
-ghost use Rattle.std.specs.Prelude.{◌≡◌, ◌≤◌, ◌<◌, ◌+◌, ◌^◌, [], length, true, false, IfSome, OnOk, Ok, Some, None};
+ghost use Rattle.std.specs.Prelude.{◌≡◌, ◌≤◌, ◌<◌, ◌+◌, ◌^◌, ◌++◌, ◌∷◌, [], length, true, false, IfSome, OnOk, Ok, Some, None};
 ghost use Rattle.std.specs.Io.KnownBytes.{IsAtEnd};
 ghost use Rattle.jser_inputs.specs.declared.Form.{Form as ToldForm};
 ghost use Rattle.jser_records.specs.Arriving.{HasNone, IsBefore, IsOver, room_size};
 ghost use Rattle.jser_records.specs.Fields.{IsBare};
 ghost use Rattle.jser_records.specs.Lines.{FieldCame, IsShort, LineCame, StretchTakes, TakesFirst, TakesLine, end_of};
-ghost use Rattle.jser_records.specs.Readings.{Came, HasSpelled, IsOfDigits, IsReady, KeepsRules};
+ghost use Rattle.jser_records.specs.Held.{Holds, HoldsMore, HoldsSame, Keeps};
+ghost use Rattle.jser_records.specs.Readings.{Came, HasSpelled, IsOfDigits, IsReady};
 ghost use Rattle.jser_records.specs.Readings.{Value as ToldValue};
 ghost use Rattle.jser_records.specs.Records.{RecordsGoTo, RecordsTo};
-ghost use Rattle.jser_records.specs.Texts.{behind_mark, characters_in, is_null, mark_size};
+ghost use Rattle.jser_records.specs.Texts.{behind_mark, characters_in, is_null, mark_in, mark_size};
 ghost use Rattle.jser_records.specs.declared.layout.Shape.TheVariants as Shape;
 
 use crate::answer::Answer;
@@ -97,8 +98,8 @@ fn take_whole_line<R: Source>(
 )
     requires before { IsBefore (end_of lines) inbox.old.waiting count }
     requires within { count < room_size }
-    ensures takes { TakesLine lines inbox.old inbox.new current.new.reading }
-    ensures rules { KeepsRules current.old.reading current.new.reading }
+    ensures takes { TakesLine lines inbox.old inbox.new current.new }
+    ensures keeps { Keeps current.old current.new }
     ensures sought { inbox.new.sought ≡ inbox.old.sought }
 {
     take_line(current, lines, inbox.front(count), line_end(lines));
@@ -129,14 +130,17 @@ fn take_last_line<R: Source, W: Sink, E: Sink>(
 }
 
 /// The bytes that end a line.
-fn line_end(lines: Lines) -> &'static [u8] {
+fn line_end(lines: Lines) -> &'static [u8]
+    ensures { result.now ≡ end_of lines ∷ [] }
+{
     if lines.zero { &[0] } else { b"\n" }
 }
 
 /// Takes a whole line, without its end, which is told beside it.
 fn take_line(current: &mut Record<'_>, lines: Lines, line: &[u8], end: &[u8])
     ensures came { IsShort lines line.now → LineCame lines line.now current.new.reading }
-    ensures rules { KeepsRules current.old.reading current.new.reading }
+    ensures held { Holds current.new (line.now ++ end.now) }
+    ensures keeps { Keeps current.old current.new }
 {
     current.begin(lines.form);
     current.hold(line);
@@ -158,7 +162,8 @@ fn without_return(lines: Lines, line: &[u8]) -> &[u8]
 /// Takes the first bytes of a line, all of its KEY before the value among them.
 fn take_front(current: &mut Record<'_>, lines: Lines, line: &[u8]) -> Stretch
     ensures came { IsReady current.old.reading lines.form → IsShort lines line.now → FieldCame lines line.now current.new.reading }
-    ensures rules { KeepsRules current.old.reading current.new.reading }
+    ensures held { HoldsSame current.old current.new }
+    ensures keeps { Keeps current.old current.new }
 {
     let parts = parts_of(line, lines.field);
     let (before, rest) = line.split_at(parts.from);
@@ -176,11 +181,12 @@ fn take_front(current: &mut Record<'_>, lines: Lines, line: &[u8]) -> Stretch
 }
 
 /// Takes what is before a value: the fields there, if there is one.
-#[tactic(auto, using(crate::proofs::LineLemmas::ready_keyed))]
+#[tactic(auto, using(crate::proofs::LineLemmas::ready_keyed, crate::proofs::HeldLemmas::holds_keyed, crate::proofs::HeldLemmas::keeps_keyed))]
 fn take_before(current: &mut Record<'_>, parts: Parts, before: &[u8])
     requires { parts.front ≤ length before.now }
     ensures ready { (form : ToldForm) → IsReady current.old.reading form → IsReady current.new.reading form }
-    ensures rules { KeepsRules current.old.reading current.new.reading }
+    ensures held { HoldsSame current.old current.new }
+    ensures keeps { Keeps current.old current.new }
 {
     if parts.from > 0 || parts.front > 0 {
         let (front, _) = before.split_at(parts.front);
@@ -189,10 +195,11 @@ fn take_before(current: &mut Record<'_>, parts: Parts, before: &[u8])
 }
 
 /// Takes what is behind a value, from the TAB on. It is the first of the KEY where nothing is before the value.
-#[tactic(auto, using(crate::proofs::LineLemmas::came_keyed))]
+#[tactic(auto, using(crate::proofs::LineLemmas::came_keyed, crate::proofs::HeldLemmas::holds_keyed, crate::proofs::HeldLemmas::keeps_keyed))]
 fn take_behind(current: &mut Record<'_>, behind: &[u8], is_first: bool)
     ensures came { (value : ToldValue) → Came current.old.reading value → Came current.new.reading value }
-    ensures rules { KeepsRules current.old.reading current.new.reading }
+    ensures held { HoldsSame current.old current.new }
+    ensures keeps { Keeps current.old current.new }
 {
     let skipped = if is_first { 1 } else { 0 };
     if let Some(rest) = behind.get(skipped..) {
@@ -201,13 +208,15 @@ fn take_behind(current: &mut Record<'_>, behind: &[u8], is_first: bool)
 }
 
 /// Takes the first characters of a value: a null, or a mark before hexadecimal digits, is known by them.
+#[tactic(auto, using(crate::proofs::HeldLemmas::holds_kept, crate::proofs::HeldLemmas::keeps_rules, crate::proofs::HeldLemmas::keeps_both))]
 fn take_value_front(current: &mut Record<'_>, form: Form, value: &[u8])
     ensures null { is_null value.now ≡ true → current.old.reading.answer ≡ None → current.new.reading.answer ≡ Some Answer.Null }
-    ensures text { is_null value.now ≡ false → IsOfDigits form → length value.now < 2 ^ 63 → HasSpelled current.old.reading form []
-        → HasSpelled current.new.reading form (characters_in form (behind_mark form value.now)) }
+    ensures text { is_null value.now ≡ false → current.old.reading.answer ≡ None → IsOfDigits form → length value.now < 2 ^ 63 → HasSpelled current.old.reading form 0 []
+        → HasSpelled current.new.reading form (mark_in form value.now) (characters_in form (behind_mark form value.now)) }
     ensures kept { IfSome current.old.reading.answer (λ a. current.new.reading.answer ≡ Some a) }
+    ensures held { HoldsSame current.old current.new }
     ensures key { current.new.reading.key ≡ current.old.reading.key }
-    ensures rules { KeepsRules current.old.reading current.new.reading }
+    ensures keeps { Keeps current.old current.new }
 {
     if is_null(value) {
         current.reading.decide_null();
@@ -281,9 +290,9 @@ fn read_long_line<R: Source, W: Sink, E: Sink>(
 fn first_stretch<R: Source>(inbox: &mut Inbox<R>, current: &mut Record<'_>, lines: Lines) -> Stretch
     requires none { HasNone (end_of lines) inbox.old.waiting }
     requires long { length inbox.old.waiting ≡ room_size }
-    ensures takes { TakesFirst (end_of lines) inbox.old inbox.new }
+    ensures takes { TakesFirst (end_of lines) inbox.old inbox.new current.new }
     ensures sought { inbox.new.sought ≡ inbox.old.sought }
-    ensures rules { KeepsRules current.old.reading current.new.reading }
+    ensures keeps { Keeps current.old current.new }
 {
     let count = whole_count(inbox.waiting());
     let stretch = begin_line(current, lines, inbox.front(count));
@@ -299,9 +308,9 @@ fn next_stretch<R: Source>(
     stretch: Stretch,
 ) -> Option<Stretch>
     requires sought { inbox.old.sought ≡ end_of lines }
-    ensures takes { StretchTakes (end_of lines) inbox.old inbox.new result }
+    ensures takes { StretchTakes (end_of lines) inbox.old inbox.new current.old current.new result }
     ensures sought { inbox.new.sought ≡ inbox.old.sought }
-    ensures rules { KeepsRules current.old.reading current.new.reading }
+    ensures keeps { Keeps current.old current.new }
 {
     match inbox.find() {
         Some(count) => {
@@ -338,7 +347,8 @@ fn whole_count(waiting: &[u8]) -> usize
 
 /// Begins a long line by its first bytes.
 fn begin_line(current: &mut Record<'_>, lines: Lines, front: &[u8]) -> Stretch
-    ensures rules { KeepsRules current.old.reading current.new.reading }
+    ensures keeps { Keeps current.old current.new }
+    ensures held { Holds current.new front.now }
 {
     current.begin(lines.form);
     current.hold(front);
@@ -353,7 +363,8 @@ fn take_piece(
     piece: &[u8],
     is_last: bool,
 ) -> Stretch
-    ensures rules { KeepsRules current.old.reading current.new.reading }
+    ensures keeps { Keeps current.old current.new }
+    ensures held { HoldsMore current.old current.new piece.now }
 {
     current.hold(piece);
     let text = if is_last {
@@ -365,8 +376,10 @@ fn take_piece(
 }
 
 /// Takes the text of a piece.
+#[tactic(auto, using(crate::proofs::HeldLemmas::holds_keyed, crate::proofs::HeldLemmas::keeps_keyed, crate::proofs::HeldLemmas::holds_refused, crate::proofs::HeldLemmas::keeps_rules))]
 fn take_text(current: &mut Record<'_>, form: Form, stretch: Stretch, text: &[u8]) -> Stretch
-    ensures rules { KeepsRules current.old.reading current.new.reading }
+    ensures keeps { Keeps current.old current.new }
+    ensures held { HoldsSame current.old current.new }
 {
     match stretch {
         Stretch::Behind => {

@@ -6,8 +6,9 @@ ghost use Rattle.jser_inputs.specs.declared.place.Place.TheVariants as Place;
 ghost use Rattle.jser_scan.specs.declared.Rules.{Rules as ToldRules};
 ghost use Rattle.jser_inputs.specs.Places.{first_place, is_whole, is_wrong};
 ghost use Rattle.jser_inputs.specs.Spelled.{spelling_of};
-ghost use Rattle.jser_records.specs.Keys.{HasNoKey};
-ghost use Rattle.jser_records.specs.Readings.{AddsKey, Counts, HasPlain, HasRead, HasSpelled, IsOfBytes, IsOfDigits, IsRight, KeepsRules};
+ghost use Rattle.jser_records.specs.Held.{may_pass};
+ghost use Rattle.jser_records.specs.Keys.{HasLostKey, HasNoKey};
+ghost use Rattle.jser_records.specs.Readings.{AddsKey, Counts, HasLost, HasPlain, HasRead, HasSpelled, IsOfBytes, IsOfDigits, IsPlaced, IsRight, IsWrongIn, KeepsRules};
 
 use crate::answer::Answer;
 use crate::judge::Judge;
@@ -52,7 +53,7 @@ impl<'f> Reading<'f> {
     #[tactic(auto, using(crate::proofs::ReadingLemmas::begins, crate::proofs::ReadingLemmas::spells_none))]
     pub(crate) fn begin(&mut self, form: Form)
         ensures has { HasRead self.new [] }
-        ensures spelled { HasSpelled self.new form [] }
+        ensures spelled { HasSpelled self.new form 0 [] }
         ensures open { self.new.answer ≡ None }
         ensures place { self.new.decoder.spot.place ≡ first_place form }
         ensures key { HasNoKey self.new.key }
@@ -67,7 +68,7 @@ impl<'f> Reading<'f> {
 
     /// Adds to its KEY.
     pub(crate) fn add_key(&mut self, bytes: &[u8])
-        ensures { AddsKey self.old self.new }
+        ensures { AddsKey self.old self.new bytes.now }
     {
         if !self.key.add(bytes) {
             self.decide(Answer::LongKey);
@@ -77,7 +78,7 @@ impl<'f> Reading<'f> {
     /// Its KEY is too long.
     pub(crate) fn lose_key(&mut self)
         ensures rest { self.new ≡ record self.old { key = self.new.key; answer = Some Answer.LongKey } }
-        ensures lost { self.new.key.is_lost ≡ true }
+        ensures lost { HasLostKey self.new.key }
     {
         self.key.lose();
         self.decide(Answer::LongKey);
@@ -88,6 +89,16 @@ impl<'f> Reading<'f> {
         ensures { result ≡ is_some self.now.answer }
     {
         self.answer.is_some()
+    }
+
+    /// Whether it may pass, as far as it is answered.
+    pub(crate) fn may_pass(&self) -> bool
+        ensures { result ≡ may_pass self.now.answer }
+    {
+        match &self.answer {
+            Some(answer) => answer.passes(),
+            None => true,
+        }
     }
 
     /// The answer, whatever was found so far.
@@ -109,9 +120,10 @@ impl<'f> Reading<'f> {
     }
 
     /// Its value has so many bytes, none of which came so far: where that is more than are read, that is the answer.
-    #[tactic(auto, using(crate::proofs::FrameLemmas::counts_longer))]
+    #[tactic(auto, using(crate::proofs::FrameLemmas::counts_longer, crate::proofs::FrameLemmas::counts_begun))]
     pub(crate) fn limit(&mut self, count: u64)
-        ensures counts { (before : List ℕ) → HasPlain self.old before → Counts self.new count before }
+        ensures counts { (before : List ℕ) → HasPlain self.old before ⊎ HasLost self.old → Counts self.new count before }
+        ensures may { may_pass self.new.answer ≡ true → may_pass self.old.answer ≡ true }
         ensures rest { self.new ≡ record self.old { answer = self.new.answer } }
     {
         if count > self.most {
@@ -120,17 +132,19 @@ impl<'f> Reading<'f> {
     }
 
     /// Goes over characters of the value that spell nothing.
+    #[tactic(auto, using(crate::proofs::PlaceLemmas::spells_behind))]
     pub(crate) fn skip(&mut self, count: usize)
         ensures rest { self.new ≡ record self.old { decoder = self.new.decoder } }
         ensures spot { self.new.decoder.spot ≡ self.old.decoder.spot }
+        ensures spelled { (form : ToldForm) → self.old.answer ≡ None → HasSpelled self.old form 0 [] → HasSpelled self.new form count [] }
     {
         self.decoder.skip(count);
     }
 
     /// The next characters of the value, which become the bytes that they spell.
     pub(crate) fn spell(&mut self, text: &mut [u8])
-        ensures spelled { (form : ToldForm) (before : List ℕ) → IsOfDigits form → length (before ++ text.old) < 2 ^ 63 → HasSpelled self.old form before
-            → HasSpelled self.new form (before ++ text.old) }
+        ensures spelled { (form : ToldForm) (mark : ℕ) (before : List ℕ) → IsOfDigits form → length (before ++ text.old) < 2 ^ 63 → HasSpelled self.old form mark before
+            → HasSpelled self.new form mark (before ++ text.old) }
         ensures answered { IfSome self.old.answer (λ a. self.new ≡ self.old) }
         ensures rules { KeepsRules self.old self.new }
         ensures key { self.new.key ≡ self.old.key }
@@ -198,7 +212,7 @@ impl<'f> Reading<'f> {
     }
 
     /// Where the text has gone wrong, that is the answer.
-    #[tactic(auto, using(crate::proofs::ReadingLemmas::unread_right))]
+    #[tactic(auto, using(crate::proofs::ReadingLemmas::unread_right, crate::proofs::PlaceLemmas::wrong_in))]
     fn look_at_text(&mut self)
         ensures has { (taken : List ℕ) → HasRead self.old taken → HasRead self.new taken }
         ensures rest { self.new ≡ record self.old { answer = self.new.answer } }
@@ -206,6 +220,7 @@ impl<'f> Reading<'f> {
         ensures bytes { self.old.decoder.spot.place ≡ Place.Bytes → self.new ≡ self.old }
         ensures unread { self.old.answer ≡ None → (rules : ToldRules) (most : ℕ) (bytes : List ℕ) → IfSome self.new.answer (λ a. IsRight rules most bytes a) }
         ensures open { self.new.answer ≡ None → (self.old.answer ≡ None) × (is_wrong self.old.decoder.spot.place ≡ false) }
+        ensures wrong { self.old.answer ≡ None → IfSome self.new.answer (λ a. IsWrongIn self.old.decoder a) }
     {
         if self.is_answered() {
             return;
@@ -218,7 +233,8 @@ impl<'f> Reading<'f> {
     /// The record has ended: its answer.
     pub(crate) fn finish(&mut self) -> Answer
         ensures right { (bytes : List ℕ) → HasRead self.old bytes → IsRight self.old.judge.rules self.old.most bytes result }
-        ensures spelled { (form : ToldForm) (text : List ℕ) → HasSpelled self.old form text → IsRight self.old.judge.rules self.old.most (spelling_of form text) result }
+        ensures spelled { (form : ToldForm) (mark : ℕ) (text : List ℕ) → HasSpelled self.old form mark text
+            → IsRight self.old.judge.rules self.old.most (spelling_of form text) result × IsPlaced form mark text result }
         ensures bytes { self.old.decoder.spot.place ≡ Place.Bytes → IfSome self.old.answer IsOfBytes → IsOfBytes result }
         ensures kept { IfSome self.old.answer (λ a. result ≡ a) }
         ensures rules { KeepsRules self.old self.new }

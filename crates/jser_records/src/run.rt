@@ -3,7 +3,7 @@ ghost use Rattle.std.specs.Prelude.{◌≡◌, ◌≢◌, ◌⊎◌, [], false, 
 ghost use Rattle.jser_scan.specs.Tallies.{status_of};
 ghost use Rattle.jser_records.specs.Arriving.{ComesMore, HasEnded, ahead};
 ghost use Rattle.jser_records.specs.Inputs.{ReadsTo, WrittenTo, WroteTo, sought_in};
-ghost use Rattle.jser_records.specs.Told.{GoesTo, QuietTo};
+ghost use Rattle.jser_records.specs.Told.{QuietTo};
 
 use crate::clerk::Clerk;
 use crate::frames::read_frames;
@@ -180,7 +180,6 @@ pub(crate) fn read_more<R: Source, W: Sink, E: Sink>(
     output: &mut W,
     faults: &mut E,
 ) -> Result<bool, Trouble>
-    ensures goes { GoesTo W.gone_out W.has_failed E.gone_out E.has_failed clerk.old clerk.new output.old output.new faults.old faults.new }
     ensures quiet { QuietTo W.gone_out W.has_failed E.gone_out E.has_failed clerk.old clerk.new output.old output.new faults.old faults.new }
     ensures current { clerk.new.current ≡ clerk.old.current }
     ensures comes { OnOk result (ComesMore inbox.old inbox.new) }

@@ -1,6 +1,13 @@
 //! Records that lie behind their length: a line that ends in it, so many bytes, and a line end.
 
-ghost use Rattle.jser_records.specs.Told.{GoesTo};
+ghost use Rattle.std.specs.Prelude.{◌≡◌, ◌⊎◌, ◌≤◌, List, ℕ, [], length, take, drop, true, false, OnOk, Ok};
+ghost use Rattle.std.specs.Io.KnownBytes.{IsAtEnd};
+ghost use Rattle.jser_records.specs.Arriving.{HasNone, IsBefore, room_size};
+ghost use Rattle.jser_records.specs.Held.{Holds, HoldsSame, Keeps};
+ghost use Rattle.jser_records.specs.Keys.{HasNoKey, IsKeyOf, key_if};
+ghost use Rattle.jser_records.specs.Records.{AllSizedTo, NextTo, ValueTo};
+ghost use Rattle.jser_records.specs.Sized.{HasBegun, HeadWaits, LineWaits, TellsLossTo, WithoutReturn, at_line, at_line_end, line_end_at};
+ghost use Rattle.jser_records.specs.declared.header.Header.TheVariants as ToldHeader;
 
 use crate::answer::Answer;
 use crate::clerk::Clerk;
@@ -23,53 +30,72 @@ enum LineEnd {
 }
 
 /// Reads records behind their length, to the end of the input, or to where no length is.
-#[tactic(auto, using(crate::proofs::ToldLemmas::goes_none, crate::proofs::ToldLemmas::goes_both, crate::proofs::ToldLemmas::goes_from, crate::proofs::ToldLemmas::goes_on, crate::proofs::ToldLemmas::goes_kept, crate::proofs::ToldLemmas::goes_changed))]
 pub(crate) fn read_sized<R: Source, W: Sink, E: Sink>(
     inbox: &mut Inbox<R>,
     clerk: &mut Clerk<'_>,
     output: &mut W,
     faults: &mut E,
 ) -> Result<(), Trouble>
-    ensures goes { GoesTo W.gone_out W.has_failed E.gone_out E.has_failed clerk.old clerk.new output.old output.new faults.old faults.new }
+    requires sought { inbox.old.sought ≡ 0x0A }
+    ensures records { AllSizedTo W.gone_out W.has_failed E.gone_out E.has_failed result clerk.old clerk.new inbox.old inbox.new output.old output.new faults.old faults.new }
 {
     'records: for _ in 0..u64::MAX {
-        if !next_record(inbox, clerk, output, faults)? {
-            return Ok(());
+        match next_record(inbox, clerk, output, faults) {
+            Ok(true) => {}
+            Ok(false) => return Ok(()),
+            Err(trouble) => return Err(trouble),
         }
     }
-    Ok(())
+    // No input has so many records.
+    Err(Trouble::Read)
 }
 
 /// Reads the next record, or more of the input where the line of its length is not whole. `false` at the end of the input, and where
 /// nobody knows what comes next.
-#[tactic(auto, using(crate::proofs::ToldLemmas::goes_none, crate::proofs::ToldLemmas::goes_both, crate::proofs::ToldLemmas::goes_from, crate::proofs::ToldLemmas::goes_on, crate::proofs::ToldLemmas::goes_kept, crate::proofs::ToldLemmas::goes_changed))]
 fn next_record<R: Source, W: Sink, E: Sink>(
     inbox: &mut Inbox<R>,
     clerk: &mut Clerk<'_>,
     output: &mut W,
     faults: &mut E,
 ) -> Result<bool, Trouble>
-    ensures goes { GoesTo W.gone_out W.has_failed E.gone_out E.has_failed clerk.old clerk.new output.old output.new faults.old faults.new }
+    requires sought { inbox.old.sought ≡ 0x0A }
+    ensures records { NextTo W.gone_out W.has_failed E.gone_out E.has_failed result at_line clerk.old clerk.new inbox.old inbox.new output.old output.new faults.old faults.new }
+    ensures sought { OnOk result (inbox.new.sought ≡ inbox.old.sought) }
 {
     match inbox.find() {
         Some(count) => take_line(inbox, clerk, count, 1, output, faults),
         None if inbox.is_full() => {
-            let count = inbox.waiting().len();
-            take_line(inbox, clerk, count, 0, output, faults)
+            tell_no_length(clerk, output, faults);
+            Ok(false)
         }
-        None => {
-            if read_more(inbox, clerk, output, faults)? {
-                return Ok(true);
-            }
-            let count = inbox.waiting().len();
-            take_line(inbox, clerk, count, 0, output, faults)
-        }
+        None => match read_more(inbox, clerk, output, faults) {
+            Ok(true) => Ok(true),
+            Ok(false) => take_last_line(inbox, clerk, output, faults),
+            Err(trouble) => Err(trouble),
+        },
     }
 }
 
-/// Takes the record behind a line of so many bytes, with an end of so many. `false` where the line has no byte and no end, and where
-/// nobody knows what comes next.
-#[tactic(auto, using(crate::proofs::ToldLemmas::goes_none, crate::proofs::ToldLemmas::goes_both, crate::proofs::ToldLemmas::goes_from, crate::proofs::ToldLemmas::goes_on, crate::proofs::ToldLemmas::goes_kept, crate::proofs::ToldLemmas::goes_changed))]
+/// Takes the record behind the line that is left at the end of the input, if it has a byte.
+fn take_last_line<R: Source, W: Sink, E: Sink>(
+    inbox: &mut Inbox<R>,
+    clerk: &mut Clerk<'_>,
+    output: &mut W,
+    faults: &mut E,
+) -> Result<bool, Trouble>
+    requires none { HasNone 0x0A inbox.old.waiting }
+    requires ends { IsAtEnd inbox.old.to_come }
+    ensures records { NextTo W.gone_out W.has_failed E.gone_out E.has_failed result at_line clerk.old clerk.new inbox.old inbox.new output.old output.new faults.old faults.new }
+    ensures sought { OnOk result (inbox.new.sought ≡ inbox.old.sought) }
+{
+    let count = inbox.waiting().len();
+    if count == 0 {
+        return Ok(false);
+    }
+    take_line(inbox, clerk, count, 0, output, faults)
+}
+
+/// Takes the record behind a line of so many bytes, with an end of so many. `false` where nobody knows what comes next.
 fn take_line<R: Source, W: Sink, E: Sink>(
     inbox: &mut Inbox<R>,
     clerk: &mut Clerk<'_>,
@@ -78,29 +104,19 @@ fn take_line<R: Source, W: Sink, E: Sink>(
     output: &mut W,
     faults: &mut E,
 ) -> Result<bool, Trouble>
-    ensures goes { GoesTo W.gone_out W.has_failed E.gone_out E.has_failed clerk.old clerk.new output.old output.new faults.old faults.new }
+    requires line { LineWaits inbox.old count end }
+    ensures records { NextTo W.gone_out W.has_failed E.gone_out E.has_failed result at_line clerk.old clerk.new inbox.old inbox.new output.old output.new faults.old faults.new }
+    ensures sought { OnOk result (inbox.new.sought ≡ inbox.old.sought) }
 {
-    if count == 0 && end == 0 {
-        return Ok(false);
-    }
-    let is_cut = end == 0 && !inbox.is_over();
-    let header = if is_cut {
-        Header::NoLength
-    } else {
-        header_of(without_return(inbox.front(count)))
-    };
-    take_record(
-        inbox,
-        clerk,
-        header,
-        count.saturating_add(end),
-        output,
-        faults,
-    )
+    let header = header_of(without_return(inbox.front(count)));
+    let size = count.saturating_add(end);
+    take_record(inbox, clerk, header, size, output, faults)
 }
 
 /// A line without the carriage return at its end.
-fn without_return(line: &[u8]) -> &[u8] {
+fn without_return(line: &[u8]) -> &[u8]
+    ensures { WithoutReturn line.now result.now }
+{
     match line {
         [front @ .., b'\r'] => front,
         _ => line,
@@ -108,7 +124,6 @@ fn without_return(line: &[u8]) -> &[u8] {
 }
 
 /// Takes the record behind a header of so many bytes, its line end among them. `false` where nobody knows what comes next.
-#[tactic(auto, using(crate::proofs::ToldLemmas::goes_none, crate::proofs::ToldLemmas::goes_both, crate::proofs::ToldLemmas::goes_from, crate::proofs::ToldLemmas::goes_on, crate::proofs::ToldLemmas::goes_kept, crate::proofs::ToldLemmas::goes_changed))]
 fn take_record<R: Source, W: Sink, E: Sink>(
     inbox: &mut Inbox<R>,
     clerk: &mut Clerk<'_>,
@@ -117,7 +132,9 @@ fn take_record<R: Source, W: Sink, E: Sink>(
     output: &mut W,
     faults: &mut E,
 ) -> Result<bool, Trouble>
-    ensures goes { GoesTo W.gone_out W.has_failed E.gone_out E.has_failed clerk.old clerk.new output.old output.new faults.old faults.new }
+    requires head { HeadWaits inbox.old size header }
+    ensures records { NextTo W.gone_out W.has_failed E.gone_out E.has_failed result at_line clerk.old clerk.new inbox.old inbox.new output.old output.new faults.old faults.new }
+    ensures sought { OnOk result (inbox.new.sought ≡ inbox.old.sought) }
 {
     match header {
         Header::Other => {
@@ -135,32 +152,38 @@ fn take_record<R: Source, W: Sink, E: Sink>(
             Ok(true)
         }
         Header::Bytes { key, count } => {
-            begin_record(inbox, &mut clerk.current, key, size);
-            take_value(inbox, clerk, count, output, faults)
+            match take_value(inbox, clerk, key, count, size, output, faults) {
+                Ok(passed) => take_line_end(inbox, clerk, passed, output, faults),
+                Err(trouble) => Err(trouble),
+            }
         }
     }
 }
 
-/// Takes a value of so many bytes and the line end behind it. `false` where something else is there.
-#[tactic(auto, using(crate::proofs::ToldLemmas::goes_none, crate::proofs::ToldLemmas::goes_both, crate::proofs::ToldLemmas::goes_from, crate::proofs::ToldLemmas::goes_on, crate::proofs::ToldLemmas::goes_kept, crate::proofs::ToldLemmas::goes_changed))]
+/// Takes a header of so many bytes and the value of so many behind it. What is returned says whether the record is accepted.
 fn take_value<R: Source, W: Sink, E: Sink>(
     inbox: &mut Inbox<R>,
     clerk: &mut Clerk<'_>,
+    key: usize,
     count: u64,
+    size: usize,
     output: &mut W,
     faults: &mut E,
 ) -> Result<bool, Trouble>
-    ensures goes { GoesTo W.gone_out W.has_failed E.gone_out E.has_failed clerk.old clerk.new output.old output.new faults.old faults.new }
+    requires head { HeadWaits inbox.old size (ToldHeader.Bytes key count) }
+    ensures records { ValueTo W.gone_out W.has_failed E.gone_out E.has_failed result clerk.old clerk.new inbox.old inbox.new output.old output.new faults.old faults.new }
+    ensures sought { OnOk result (inbox.new.sought ≡ inbox.old.sought) }
 {
-    take_bytes(inbox, clerk, count, output, faults)?;
-    let passed = clerk.close(output, faults);
-    take_line_end(inbox, clerk, passed, output, faults)
+    begin_record(inbox, &mut clerk.current, key, size);
+    match take_bytes(inbox, clerk, count, output, faults) {
+        Ok(()) => Ok(clerk.close(output, faults)),
+        Err(trouble) => Err(trouble),
+    }
 }
 
 /// Tells of a record that its length is not known.
-#[tactic(auto, using(crate::proofs::ToldLemmas::goes_none, crate::proofs::ToldLemmas::goes_both, crate::proofs::ToldLemmas::goes_from, crate::proofs::ToldLemmas::goes_on, crate::proofs::ToldLemmas::goes_kept, crate::proofs::ToldLemmas::goes_changed))]
 fn tell_no_length<W: Sink, E: Sink>(clerk: &mut Clerk<'_>, output: &mut W, faults: &mut E)
-    ensures goes { GoesTo W.gone_out W.has_failed E.gone_out E.has_failed clerk.old clerk.new output.old output.new faults.old faults.new }
+    ensures { TellsLossTo W.gone_out W.has_failed E.gone_out E.has_failed clerk.old clerk.new output.old output.new faults.old faults.new }
 {
     clerk.current.begin(Form::Binary);
     clerk.current.reading.decide(Answer::NoLength);
@@ -168,20 +191,36 @@ fn tell_no_length<W: Sink, E: Sink>(clerk: &mut Clerk<'_>, output: &mut W, fault
 }
 
 /// Begins a record behind a header of so many bytes, whose first ones are the KEY.
-fn begin_record<R: Source>(inbox: &mut Inbox<R>, record: &mut Record<'_>, key: usize, size: usize) {
-    record.begin(Form::Binary);
+#[tactic(auto, using(crate::proofs::SizedLemmas::begun_held, crate::proofs::HeldLemmas::keeps_both))]
+fn begin_record<R: Source>(inbox: &mut Inbox<R>, current: &mut Record<'_>, key: usize, size: usize)
+    ensures passed { inbox.new ≡ record inbox.old { waiting = drop size inbox.old.waiting } }
+    ensures begun { HasBegun current.new.reading }
+    ensures key { IsKeyOf current.new.reading.key (key_if (take key (take size inbox.old.waiting))) }
+    ensures held { Holds current.new (take size inbox.old.waiting) }
+    ensures keeps { Keeps current.old current.new }
+{
+    current.begin(Form::Binary);
     let header = inbox.front(size);
-    record.hold(header);
-    if key > 0
-        && let Some(bytes) = header.get(..key)
-    {
-        record.reading.add_key(bytes);
-    }
+    current.hold(header);
+    let (bytes, _) = header.split_at(key.min(header.len()));
+    keep_key(current, bytes);
     inbox.pass(size);
 }
 
+/// Keeps the KEY of a record, if it has one.
+#[tactic(auto, using(crate::proofs::SizedLemmas::begun_keyed, crate::proofs::SizedLemmas::key_kept_some, crate::proofs::SizedLemmas::key_kept_none, crate::proofs::HeldLemmas::holds_keyed, crate::proofs::HeldLemmas::keeps_keyed))]
+fn keep_key(current: &mut Record<'_>, bytes: &[u8])
+    ensures begun { HasBegun current.old.reading → HasBegun current.new.reading }
+    ensures key { HasNoKey current.old.reading.key → IsKeyOf current.new.reading.key (key_if bytes.now) }
+    ensures held { HoldsSame current.old current.new }
+    ensures keeps { Keeps current.old current.new }
+{
+    if !bytes.is_empty() {
+        current.reading.add_key(bytes);
+    }
+}
+
 /// Takes the line end behind a value. `false` where something else is there.
-#[tactic(auto, using(crate::proofs::ToldLemmas::goes_none, crate::proofs::ToldLemmas::goes_both, crate::proofs::ToldLemmas::goes_from, crate::proofs::ToldLemmas::goes_on, crate::proofs::ToldLemmas::goes_kept, crate::proofs::ToldLemmas::goes_changed))]
 fn take_line_end<R: Source, W: Sink, E: Sink>(
     inbox: &mut Inbox<R>,
     clerk: &mut Clerk<'_>,
@@ -189,12 +228,13 @@ fn take_line_end<R: Source, W: Sink, E: Sink>(
     output: &mut W,
     faults: &mut E,
 ) -> Result<bool, Trouble>
-    ensures goes { GoesTo W.gone_out W.has_failed E.gone_out E.has_failed clerk.old clerk.new output.old output.new faults.old faults.new }
+    ensures records { NextTo W.gone_out W.has_failed E.gone_out E.has_failed result (at_line_end passed) clerk.old clerk.new inbox.old inbox.new output.old output.new faults.old faults.new }
+    ensures sought { OnOk result (inbox.new.sought ≡ inbox.old.sought) }
 {
     'reads: for _ in 0..u64::MAX {
         match line_end(inbox.waiting(), inbox.is_over()) {
             LineEnd::There(size) => {
-                hand_on(clerk, passed, inbox.front(size), output, faults);
+                clerk.pass_on(output, faults, inbox.front(size), passed);
                 inbox.pass(size);
                 return Ok(true);
             }
@@ -202,32 +242,20 @@ fn take_line_end<R: Source, W: Sink, E: Sink>(
                 tell_no_length(clerk, output, faults);
                 return Ok(false);
             }
-            LineEnd::Awaited => {
-                let _ = read_more(inbox, clerk, output, faults)?;
-            }
+            LineEnd::Awaited => match read_more(inbox, clerk, output, faults) {
+                Ok(_) => {}
+                Err(trouble) => return Err(trouble),
+            },
         }
     }
-    Ok(false)
-}
-
-/// Hands on the line end behind a record that passed.
-#[tactic(auto, using(crate::proofs::ToldLemmas::goes_none, crate::proofs::ToldLemmas::goes_both, crate::proofs::ToldLemmas::goes_from, crate::proofs::ToldLemmas::goes_on, crate::proofs::ToldLemmas::goes_kept, crate::proofs::ToldLemmas::goes_changed))]
-fn hand_on<W: Sink, E: Sink>(
-    clerk: &mut Clerk<'_>,
-    passed: bool,
-    end: &[u8],
-    output: &mut W,
-    faults: &mut E,
-)
-    ensures goes { GoesTo W.gone_out W.has_failed E.gone_out E.has_failed clerk.old clerk.new output.old output.new faults.old faults.new }
-{
-    if passed {
-        clerk.pass_on(output, faults, end);
-    }
+    // No line end takes so many reads.
+    Err(Trouble::Read)
 }
 
 /// What is behind a value.
-fn line_end(waiting: &[u8], is_over: bool) -> LineEnd {
+fn line_end(waiting: &[u8], is_over: bool) -> LineEnd
+    ensures { result ≡ line_end_at waiting.now is_over }
+{
     match waiting {
         [b'\n', ..] => LineEnd::There(1),
         [b'\r', b'\n', ..] => LineEnd::There(2),

@@ -4,7 +4,7 @@ use Rattle.jser_records.proofs.TextLemmas.{few_marked}
 use Rattle.jser_records.proofs.current.spell_over.Goals as goal
 
 pub returns-clause-spelled : goal.returns-clause-spelled
-returns-clause-spelled c = λ before digits few had.
+returns-clause-spelled c = λ mark before digits few had.
     let marked = c.mark_over.new.text in
-    subst (λ xs. HasSpelled c.spell.new.self c.args.form (before ++ xs)) c.mark_over.ensures
-    (c.spell.ensures.spelled c.args.form before digits (few_marked c.args.form before c.args.text.now marked c.mark_over.ensures few) had)
+    subst (λ xs. HasSpelled c.spell.new.self c.args.form mark (before ++ xs)) c.mark_over.ensures
+    (c.spell.ensures.spelled c.args.form mark before digits (few_marked c.args.form before c.args.text.now marked c.mark_over.ensures few) had)

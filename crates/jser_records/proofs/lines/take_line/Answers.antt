@@ -1,4 +1,4 @@
-use Rattle.std.proofs.Common.{refl, arith}
+use Rattle.std.proofs.Common.{[], ◌++◌, refl, arith}
 use Rattle.jser_records.specs.Lines.{FieldCame, value_in}
 use Rattle.jser_records.proofs.LineLemmas.{ready_begun}
 use Rattle.jser_records.proofs.lines.take_line.Goals as goal
@@ -16,3 +16,6 @@ returns-clause-came c = λ short.
       is = record { bare = bare; is_bare = c.without_return.ensures.bare; field = f.field; is_field = f.is_field; is_value = refl };
       came = f.came;
     }
+
+pub returns-clause-held : goal.returns-clause-held
+returns-clause-held c = c.take_front.ensures.held (c.args.line.now ++ c.args.end.now) (c.hold-2.ensures.held c.args.line.now (c.hold.ensures.held [] c.begin.ensures.held))

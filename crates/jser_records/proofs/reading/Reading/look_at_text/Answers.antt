@@ -1,8 +1,9 @@
-use Rattle.std.proofs.Common.{sym, subst}
+use Rattle.std.proofs.Common.{sym, subst, ◌∙◌}
 use Rattle.std.specs.Prelude.{IfSome}
 use Rattle.jser_scan.specs.declared.Found.TheVariants as found
 use Rattle.jser_records.specs.declared.answer.Answer.TheVariants as answer
-use Rattle.jser_records.specs.Readings.{HasRead, IsRight}
+use Rattle.jser_records.specs.Readings.{HasRead, IsRight, IsWrongIn}
+use Rattle.jser_records.proofs.PlaceLemmas.{wrong_in}
 use Rattle.jser_records.proofs.ReadingLemmas.{answers, unread_right}
 use Rattle.jser_records.proofs.reading.Reading.look_at_text.Goals as goal
 
@@ -15,3 +16,7 @@ returns-in-Some-clause-has c = λ taken had.
 pub returns-in-Some-clause-unread : goal.returns-in-Some-clause-unread
 returns-in-Some-clause-unread c = λ none rules most bytes.
     subst (λ r. IfSome r.answer (λ a. IsRight rules most bytes a)) (sym c.decide.ensures) (unread_right rules most bytes c.in-Some.fault)
+
+pub returns-in-Some-clause-wrong : goal.returns-in-Some-clause-wrong
+returns-in-Some-clause-wrong c = λ none.
+    subst (λ r. IfSome r.answer (λ a. IsWrongIn c.args.self.now.decoder a)) (sym c.decide.ensures) (wrong_in c.args.self.now.decoder c.in-Some.fault (sym c.fault.ensures ∙ c.in-Some.is))
