@@ -12,6 +12,7 @@ pub mod DraftLemmas
 pub mod WalkLemmas
 pub mod SaysLemmas
 pub mod LineLemmas
+pub mod FloatLemmas
 pub mod MeaningLemmas
 pub mod ValueLemmas
 pub mod StepLemmas

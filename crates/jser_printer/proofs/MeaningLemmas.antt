@@ -9,6 +9,9 @@ use Rattle.jser_prim.specs.Outgoing.{Outgoing, SinkState}
 use Rattle.jser_grammar.specs.Codes.{PrimCode, byte_code, char_code, double_code, float_code, int_code, long_code, short_code, boolean_code, size_of}
 use Rattle.jser_reading.specs.TokensFromBytes.{number_of}
 use Rattle.jser_reading.proofs.Decoding.{number_1, number_2, number_4, number_8}
+use Rattle.jser_decimal.specs.declared.float.Float.{Float}
+use Rattle.jser_decimal.specs.Floats.{double_of, single_of}
+use Rattle.jser_shown.specs.Floats.{float_text}
 use Rattle.jser_shown.specs.Words.{quoted, quoted_unit}
 use Rattle.jser_shown.specs.Values.{signed_text, boolean_text, meaning, in_brackets, value_word, bytes_word}
 use Rattle.jser_printer.specs.declared.primitive.Primitive.{Primitive}
@@ -117,13 +120,17 @@ says_negative a b c d e f least n m above is h g =
     ∙ ap (λ x. 0x2D ∷ (decimal x ++ k)) (let q : least + least - n ≡ m = omega (arith, is, above) in q))
     (says_both a b c d e f (λ k. 0x2D ∷ k) (λ k. decimal m ++ k) h g)
 
--- floats mean nothing
-pub says_no_float : (a : Outgoing) (d : SinkState) (c : PrimCode) (bytes : List ℕ) → ((n : ℕ) → meaning c n ≡ None) → Says a a d d (λ k. bytes_word true (Some c) bytes k)
-says_no_float a d c bytes none = says_nothing a d (λ k. bytes_word true (Some c) bytes k) (λ k. tested (length bytes == size_of c) k)
-  where
-    tested : (t : Bool) (k : List ℕ) → (if t then in_brackets (meaning c (number_of bytes)) k else k) ≡ k
-    tested true k = ap (λ m. in_brackets m k) (none (number_of bytes))
-    tested false k = refl
+-- floats
+
+pub says_double : (a b : Outgoing) (d e : SinkState) (bytes : List ℕ) (n : ℕ) (float : Float) → length bytes ≡ 8 → n < 2 ^ 64 → big_bytes 8 n ≡ bytes → float ≡ double_of n
+    → Says a b d e (λ k. in_brackets (Some (float_text float)) k) → Says a b d e (λ k. bytes_word true (Some double_code) bytes k)
+says_double a b d e bytes n float long bound is of h =
+    says_sized a b d e double_code bytes n long (read_8 bytes n bound is) (subst (λ f. Says a b d e (λ k. in_brackets (Some (float_text f)) k)) of h)
+
+pub says_single : (a b : Outgoing) (d e : SinkState) (bytes : List ℕ) (n : ℕ) (float : Float) → length bytes ≡ 4 → n < 2 ^ 32 → big_bytes 4 n ≡ bytes → float ≡ single_of n
+    → Says a b d e (λ k. in_brackets (Some (float_text float)) k) → Says a b d e (λ k. bytes_word true (Some float_code) bytes k)
+says_single a b d e bytes n float long bound is of h =
+    says_sized a b d e float_code bytes n long (read_4 bytes n bound is) (subst (λ f. Says a b d e (λ k. in_brackets (Some (float_text f)) k)) of h)
 
 -- a text in brackets
 pub says_bracketed : (a b c g : Outgoing) (d e f h : SinkState) (text : List ℕ) → Says a b d e (λ k. 0x20 ∷ 0x28 ∷ k)

@@ -9,6 +9,9 @@ use Rattle.jser_grammar.specs.Trees.{PrimTree, string, class_object, array, obje
 use Rattle.jser_grammar.specs.Codes.{PrimCode, byte_code, char_code, double_code, float_code, int_code, long_code, short_code, boolean_code}
 use Rattle.jser_grammar.proofs.Rows.{field_of, linked_pair, array_list, reset_epochs, int_array, external_over_serial, enum_constant_row, proxy_row}
 use Rattle.jser_prim.specs.ModifiedUtf8.{unit_spelling}
+use Rattle.jser_decimal.specs.Floats.{double_of, single_of}
+use Rattle.jser_decimal.specs.Shortest.{place_from}
+use Rattle.jser_shown.specs.Floats.{float_text}
 use Rattle.jser_shown.specs.Shown.{shown}
 use Rattle.jser_shown.specs.Listed.{listed}
 use Rattle.jser_shown.specs.Nodes.{text_node, plain_desc_node, object_node, nodes_of}
@@ -82,7 +85,7 @@ unfolding digits encode_with
 other_words_shown = refl
 
 -- Raw values with what they mean: the least number of each type or the greatest, a unit beyond ASCII, a byte that is no
--- boolean. A float and a double have no meaning yet.
+-- boolean.
 linked_pair_with_values : shown true linked_pair ≡ codes "stream version 5\nobject #0.7e0002\n  class desc #0.7e0000 \"List\" suid 69c88a154016ae68 flags 02\n    field I \"value\"\n    field L \"next\" type text #0.7e0001 \"LList;\"\n    super null\n  data \"List\"\n    \"value\" = 00000011 (17)\n    \"next\" = object #0.7e0003\n      class ref #0.7e0000\n      data \"List\"\n        \"value\" = 00000013 (19)\n        \"next\" = null\nref #0.7e0003\n"
 unfolding digits encode_with
 linked_pair_with_values = refl
@@ -102,15 +105,45 @@ every_kind =
     ∷ field_of 0x49 (codes "i") ∷ field_of 0x4A (codes "j") ∷ field_of 0x53 (codes "s") ∷ field_of 0x5A (codes "y")
     ∷ field_of 0x5A (codes "z") ∷ []) no_contents no_class))
     (section_and (section
-    (value_of byte_code 0x80 ∷ value_of char_code 0xE9 ∷ value_of double_code 0x3FF0000000000000
-    ∷ value_of float_code 0x3F800000 ∷ value_of int_code 0x80000000 ∷ value_of long_code 0x7FFFFFFFFFFFFFFF
+    (value_of byte_code 0x80 ∷ value_of char_code 0xE9 ∷ value_of double_code 0x3FB999999999999A
+    ∷ value_of float_code 0xC61C4000 ∷ value_of int_code 0x80000000 ∷ value_of long_code 0x7FFFFFFFFFFFFFFF
     ∷ value_of short_code 0xFFFF ∷ value_of boolean_code 2 ∷ value_of boolean_code 1 ∷ [])
     no_values no_notes) no_sections)))
     no_contents
 
-every_kind_with_values : shown true every_kind ≡ codes "stream version 5\nobject #0.7e0001\n  class desc #0.7e0000 \"V\" suid 0000000000000001 flags 02\n    field B \"b\"\n    field C \"c\"\n    field D \"d\"\n    field F \"f\"\n    field I \"i\"\n    field J \"j\"\n    field S \"s\"\n    field Z \"y\"\n    field Z \"z\"\n    super null\n  data \"V\"\n    \"b\" = 80 (-128)\n    \"c\" = 00e9 (\"\\u00e9\")\n    \"d\" = 3ff0000000000000\n    \"f\" = 3f800000\n    \"i\" = 80000000 (-2147483648)\n    \"j\" = 7fffffffffffffff (9223372036854775807)\n    \"s\" = ffff (-1)\n    \"y\" = 02\n    \"z\" = 01 (true)\n"
-unfolding digits encode_with
+every_kind_with_values : shown true every_kind ≡ codes "stream version 5\nobject #0.7e0001\n  class desc #0.7e0000 \"V\" suid 0000000000000001 flags 02\n    field B \"b\"\n    field C \"c\"\n    field D \"d\"\n    field F \"f\"\n    field I \"i\"\n    field J \"j\"\n    field S \"s\"\n    field Z \"y\"\n    field Z \"z\"\n    super null\n  data \"V\"\n    \"b\" = 80 (-128)\n    \"c\" = 00e9 (\"\\u00e9\")\n    \"d\" = 3fb999999999999a (0.1)\n    \"f\" = c61c4000 (-10000.0)\n    \"i\" = 80000000 (-2147483648)\n    \"j\" = 7fffffffffffffff (9223372036854775807)\n    \"s\" = ffff (-1)\n    \"y\" = 02\n    \"z\" = 01 (true)\n"
+unfolding digits encode_with place_from
 every_kind_with_values = refl
+
+-- floats at the edges, as the documentation of Java's classes Double and Float writes them
+greatest_double : float_text (double_of 0x7FEFFFFFFFFFFFFF) ≡ codes "1.7976931348623157E308"
+unfolding digits place_from
+greatest_double = refl
+
+least_double : float_text (double_of 1) ≡ codes "4.9E-324"
+unfolding digits place_from
+least_double = refl
+
+least_normal_double : float_text (double_of 0x0010000000000000) ≡ codes "2.2250738585072014E-308"
+unfolding digits place_from
+least_normal_double = refl
+
+greatest_float : float_text (single_of 0x7F7FFFFF) ≡ codes "3.4028235E38"
+unfolding digits place_from
+greatest_float = refl
+
+least_float : float_text (single_of 1) ≡ codes "1.4E-45"
+unfolding digits place_from
+least_float = refl
+
+zero_below_zero : float_text (double_of 0x8000000000000000) ≡ codes "-0.0"
+zero_below_zero = refl
+
+no_number : float_text (double_of 0xFFF8000000000001) ≡ codes "NaN"
+no_number = refl
+
+least_infinity : float_text (double_of 0xFFF0000000000000) ≡ codes "-Infinity"
+least_infinity = refl
 
 linked_pair_listed : listed (λ name. codes "undecided") linked_pair ≡ codes "1 undecided \"List\"\n"
 unfolding digits

@@ -1,5 +1,6 @@
 pub mod Known
 pub mod Words
+pub mod Floats
 pub mod Values
 pub mod Shown
 pub mod Listed

@@ -4,6 +4,8 @@ use Rattle.std.specs.Prelude.{ℕ, ◌-◌, ◌^◌, ◌==◌, ◌+◌, nat_lt, 
 use Rattle.std.specs.Fmt.{decimal}
 use Rattle.jser_grammar.specs.Codes.{PrimCode, byte_code, char_code, double_code, float_code, int_code, long_code, short_code, boolean_code, size_of}
 use Rattle.jser_reading.specs.TokensFromBytes.{number_of}
+use Rattle.jser_decimal.specs.Floats.{double_of, single_of}
+use Rattle.jser_shown.specs.Floats.{float_text}
 use Rattle.jser_shown.specs.Words.{quoted}
 
 -- two's complement: of the numbers of a type the lower half stand for themselves, and the others, from `least` on, for
@@ -19,8 +21,8 @@ boolean_text n = if n == 0 then Some (codes "false") else (if n == 1 then Some (
 abbrev pub meaning : PrimCode → ℕ → Option (List ℕ)
 meaning byte_code n = Some (signed_text (2 ^ 7) n)
 meaning char_code n = Some (quoted (n ∷ []) [])
-meaning double_code n = None
-meaning float_code n = None
+meaning double_code n = Some (float_text (double_of n))
+meaning float_code n = Some (float_text (single_of n))
 meaning int_code n = Some (signed_text (2 ^ 31) n)
 meaning long_code n = Some (signed_text (2 ^ 63) n)
 meaning short_code n = Some (signed_text (2 ^ 15) n)

@@ -1,14 +1,17 @@
 //! What raw values mean.
 ghost use Rattle.std.specs.Prelude.{◌<◌, ◌+◌, ◌++◌, true, Some};
 ghost use Rattle.jser_grammar.specs.Codes.{byte_code, char_code, double_code, float_code, int_code, long_code, short_code, boolean_code};
+ghost use Rattle.jser_shown.specs.Floats.{float_text};
 ghost use Rattle.jser_shown.specs.Values.{bytes_word, boolean_text, in_brackets, signed_text};
 ghost use Rattle.jser_printer.specs.Primitives.{view_elements, view_primitive};
 ghost use Rattle.jser_printer.specs.Says.{SaysTo};
 
 use crate::primitive::Primitive;
+use crate::words::float::write_float;
 use crate::words::line::write;
 use crate::words::number::write_decimal;
 use crate::words::quote::write_quoted;
+use jser_decimal::{Float, double_of, single_of};
 use jser_prim::{Outbox, Sink, read_u16, read_u32, read_u64};
 
 /// Writes what bytes of this type mean, if they are those of a value and mean anything.
@@ -35,7 +38,7 @@ fn write_value<W: Sink>(outbox: &mut Outbox, sink: &mut W, primitive: Primitive,
         Primitive::Byte => write_byte(outbox, sink, bytes),
         Primitive::Char => write_char(outbox, sink, bytes),
         Primitive::Double => write_double(outbox, sink, bytes),
-        Primitive::Float => write_float(outbox, sink, bytes),
+        Primitive::Float => write_single(outbox, sink, bytes),
         Primitive::Int => write_int(outbox, sink, bytes),
         Primitive::Long => write_long(outbox, sink, bytes),
         Primitive::Short => write_short(outbox, sink, bytes),
@@ -43,18 +46,31 @@ fn write_value<W: Sink>(outbox: &mut Outbox, sink: &mut W, primitive: Primitive,
     }
 }
 
-/// Writes nothing: of a double nothing is told.
-fn write_double<W: Sink>(_outbox: &mut Outbox, _sink: &mut W, bytes: &[u8])
-    ensures { SaysTo W.gone_out W.has_failed _outbox.old _outbox.new _sink.old _sink.new (λ k. bytes_word true (Some double_code) bytes.now k) }
+/// Writes a double as Java prints it.
+fn write_double<W: Sink>(outbox: &mut Outbox, sink: &mut W, bytes: &[u8])
+    ensures { SaysTo W.gone_out W.has_failed outbox.old outbox.new sink.old sink.new (λ k. bytes_word true (Some double_code) bytes.now k) }
 {
-    let _ = bytes;
+    if bytes.len() == 8 {
+        write_float_in_brackets(outbox, sink, &double_of(read_u64(bytes)));
+    }
 }
 
-/// Writes nothing: of a float nothing is told.
-fn write_float<W: Sink>(_outbox: &mut Outbox, _sink: &mut W, bytes: &[u8])
-    ensures { SaysTo W.gone_out W.has_failed _outbox.old _outbox.new _sink.old _sink.new (λ k. bytes_word true (Some float_code) bytes.now k) }
+/// Writes a float as Java prints it.
+fn write_single<W: Sink>(outbox: &mut Outbox, sink: &mut W, bytes: &[u8])
+    ensures { SaysTo W.gone_out W.has_failed outbox.old outbox.new sink.old sink.new (λ k. bytes_word true (Some float_code) bytes.now k) }
 {
-    let _ = bytes;
+    if bytes.len() == 4 {
+        write_float_in_brackets(outbox, sink, &single_of(read_u32(bytes)));
+    }
+}
+
+/// Writes a float in brackets.
+fn write_float_in_brackets<W: Sink>(outbox: &mut Outbox, sink: &mut W, float: &Float)
+    ensures { SaysTo W.gone_out W.has_failed outbox.old outbox.new sink.old sink.new (λ k. in_brackets (Some (float_text float.now)) k) }
+{
+    write(outbox, sink, b" (");
+    write_float(outbox, sink, float);
+    write(outbox, sink, b")");
 }
 
 /// Writes a byte in decimal.

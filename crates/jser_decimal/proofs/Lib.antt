@@ -1,0 +1,2 @@
+pub mod BigLemmas
+pub mod ShortestLemmas

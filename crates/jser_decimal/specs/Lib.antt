@@ -1,0 +1,4 @@
+pub mod Bigs
+pub mod Shortest
+pub mod Floats
+pub mod Measured
