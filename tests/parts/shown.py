@@ -4,6 +4,7 @@
 crates/jser_shown/README.md (how they are written). It checks next to nothing, and calls itself for each level.
 """
 import sys
+from fractions import Fraction
 from pathlib import Path
 
 SIZES = {"B": 1, "C": 2, "D": 8, "F": 4, "I": 4, "J": 8, "S": 2, "Z": 1}
@@ -34,6 +35,42 @@ def quoted(data):
     return quoted_units(units_of(data))
 
 
+def shortest(bits, fraction_bits, exponent_bits):
+    """The digits of the shortest decimal that reads back as the size with these bits, and the power of ten of the last."""
+    exponent, fraction = bits >> fraction_bits, bits & (1 << fraction_bits) - 1
+    significand = fraction + (1 << fraction_bits) * (exponent > 0)
+    gap = Fraction(2) ** (max(exponent, 1) - (1 << exponent_bits - 1) + 1 - fraction_bits)
+    size, below = significand * gap, gap / 2 if fraction == 0 and exponent > 1 else gap
+    low, high = size - below / 2, size + gap / 2
+    first = next(at for at in range(400, -400, -1) if Fraction(10) ** at <= size)
+    for power in range(first - 1, first - 17, -1):
+        ten = Fraction(10) ** power
+        near = [it for it in (size // ten, size // ten + 1) if low < it * ten < high or significand % 2 == 0 and it * ten in (low, high)]
+        if near:
+            return min(near, key=lambda it: (abs(it * ten - size), it % 2)), power
+    raise ValueError(f"{bits:x} has no shortest decimal")
+
+
+def float_text(data):
+    """A float as Java prints it, by the documentation of `Double.toString`."""
+    fraction_bits, exponent_bits = (52, 11) if len(data) == 8 else (23, 8)
+    bits = int.from_bytes(data, "big")
+    size, infinite = bits % (1 << 8 * len(data) - 1), (1 << exponent_bits) - 1 << fraction_bits
+    if size > infinite:
+        return "NaN"
+    sign = "-" if bits != size else ""
+    if size in (0, infinite):
+        return sign + ("Infinity" if size else "0.0")
+    number, power = shortest(size, fraction_bits, exponent_bits)
+    digits = str(number).rstrip("0")
+    point = len(str(number)) + power
+    if -3 < point <= 0:
+        return f"{sign}0.{'0' * -point}{digits}"
+    if 0 < point <= 7:
+        return f"{sign}{digits[:point].ljust(point, '0')}.{digits[point:] or '0'}"
+    return f"{sign}{digits[0]}.{digits[1:] or '0'}E{point - 1}"
+
+
 def meaning(code, data):
     """What raw bits mean, in brackets; nothing of those that are told no meaning."""
     number = int.from_bytes(data, "big", signed=code != "C")
@@ -41,6 +78,8 @@ def meaning(code, data):
         return f" ({number})"
     if code == "C":
         return f" ({quoted_units([number])})"
+    if code in "DF":
+        return f" ({float_text(data)})"
     return {b"\0": " (false)", b"\1": " (true)"}.get(data, "") if code == "Z" else ""
 
 
