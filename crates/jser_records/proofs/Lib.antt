@@ -4,6 +4,7 @@ pub mod HeaderLemmas
 pub mod HeldLemmas
 pub mod InputLemmas
 pub mod JudgeLemmas
+pub mod KeyLemmas
 pub mod LineLemmas
 pub mod LossLemmas
 pub mod PlaceLemmas

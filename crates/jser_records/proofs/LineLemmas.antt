@@ -1,7 +1,7 @@
 -- Records that are lines.
-use Rattle.std.proofs.Common.{◌≡◌, ◌≢◌, ◌⊎◌, ℕ, ◌+◌, ◌≤◌, ◌<◌, ◌^◌, min, Bool, true, false, if◌then◌else◌, List, [], ◌∷◌, ◌++◌, length, take, drop, inl, inr, refl, sym, ap, subst, ◌∙◌, arith, append_assoc, length-append, append-nil, Some, None}
+use Rattle.std.proofs.Common.{◌≡◌, ◌≢◌, ◌⊎◌, ℕ, ◌+◌, ◌-◌, ◌≤◌, ◌<◌, ◌^◌, min, Bool, true, false, if◌then◌else◌, List, [], ◌∷◌, ◌++◌, length, take, drop, inl, inr, refl, sym, ap, subst, ◌∙◌, arith, append_assoc, length-append, append-nil, Some, None}
 use Rattle.std.proofs.lemmas.List.Elements.{All-append}
-use Rattle.std.proofs.lemmas.List.{get_or-take, length-take, length-take-le, take_all, take_at}
+use Rattle.std.proofs.lemmas.List.{get_or-take, length-drop, length-take, length-take-le, take_all, take_at}
 use Rattle.std.specs.Prelude.{IfSome}
 use Rattle.std.specs.Io.KnownBytes.{IsAtEnd}
 use Rattle.jser_prim.specs.Outgoing.{SinkState}
@@ -13,16 +13,21 @@ use Rattle.jser_records.specs.declared.key.Key.{Key}
 use Rattle.jser_records.specs.declared.layout.Lines.{Lines}
 use Rattle.jser_records.specs.declared.layout.Shape.TheVariants as shape
 use Rattle.jser_records.specs.declared.current.Record.{Record}
+use Rattle.jser_records.specs.declared.parts.Parts.{Parts}
 use Rattle.jser_records.specs.declared.reading.Reading.{Reading}
 use Rattle.jser_records.specs.Arriving.{Arriving, HasNone, IsBefore, IsOver, Took, room_size}
+use Rattle.jser_records.specs.Fields.{AreParts, IsValue, key_of, part_of}
 use Rattle.jser_records.specs.Held.{Holds, HoldsMore, Terms}
-use Rattle.jser_records.specs.Lines.{IsShort, LineCame, TakesFirst, TakesLine, TakesRest, TakesText, end_of, value_in}
+use Rattle.jser_records.specs.Keys.{HasNoKey, IsKeyOf}
+use Rattle.jser_records.specs.Lines.{FieldCame, LineCame, TakesFirst, TakesLine, TakesRest, TakesText, end_of, value_in}
 use Rattle.jser_records.specs.Readings.{AddsKey, Came, HasCome, HasSpelled, IsFor, IsOfDigits, IsReady, Value, none, plain, text_of, cut_at, unknown}
 use Rattle.jser_records.specs.Records.{RecordsGo}
 use Rattle.jser_records.specs.Texts.{behind_mark, characters_in, is_null, mark_in}
 use Rattle.jser_records.specs.Sized.{at_line}
 use Rattle.jser_records.specs.Told.{Closes, Entry, Quiet, ended}
+use Rattle.jser_records.proofs.FieldLemmas.{parts_value}
 use Rattle.jser_records.proofs.HeldLemmas.{holds_both, holds_none}
+use Rattle.jser_records.proofs.KeyLemmas.{told_key}
 use Rattle.jser_records.proofs.RecordLemmas.{handed, part_said}
 use Rattle.jser_records.proofs.RoomLemmas.{ahead_over, all_passed, took_both, took_first}
 
@@ -38,7 +43,7 @@ took_ended : (end : ℕ) (old new : Arriving) (count : ℕ) → IsBefore end old
 took_ended end old new count b is = subst (λ xs. Took old new xs) (with_end end old.waiting count b) (took_first old new (count + 1) is)
 
 pub whole_line : (lines : Lines) (old new : Arriving) (count : ℕ) (r : Record) → IsBefore (end_of lines) old.waiting count
-    → new ≡ record old { waiting = drop (count + 1) old.waiting } → (IsShort lines (take count old.waiting) → LineCame lines (take count old.waiting) r.reading)
+    → new ≡ record old { waiting = drop (count + 1) old.waiting } → LineCame lines (take count old.waiting) r.reading
     → Holds r (take count old.waiting ++ (end_of lines ∷ [])) → TakesLine lines old new r
 whole_line lines old new count r b is came held = record {
   text = take count old.waiting;
@@ -46,7 +51,7 @@ whole_line lines old new count r b is came held = record {
   took = took_ended (end_of lines) old new count b is;
   none = b.none;
   is = inl refl;
-  came = came;
+  came = λ few. came;
   held = held;
 }
 
@@ -98,7 +103,7 @@ rest_last end old new count was last clean all ends is held = record {
 }
 
 pub last_line : (lines : Lines) (old new : Arriving) (count : ℕ) (r : Record) → HasNone (end_of lines) old.waiting → 0 < length old.waiting → length old.waiting ≤ count
-    → IsAtEnd old.to_come → new ≡ record old { waiting = drop count old.waiting } → (IsShort lines old.waiting → LineCame lines old.waiting r.reading) → Holds r (old.waiting ++ [])
+    → IsAtEnd old.to_come → new ≡ record old { waiting = drop count old.waiting } → LineCame lines old.waiting r.reading → Holds r (old.waiting ++ [])
     → TakesLine lines old new r
 last_line lines old new count r clean some all ends is came held = record {
   text = old.waiting;
@@ -106,7 +111,7 @@ last_line lines old new count r clean some all ends is came held = record {
   took = subst (λ xs. Took old new xs) (sym (append-nil old.waiting)) (all_taken old new count all is);
   none = clean;
   is = inr (refl, some, all_passed old new count is all ends);
-  came = came;
+  came = λ few. came;
   held = held;
 }
 
@@ -137,7 +142,7 @@ line_taken lines from mid now a b x y =
     let text : List ℕ = x.text ++ y.text in
     let size : length text ≡ length x.text + length y.text = length-append x.text y.text in
     let long = x.long in
-    let not : IsShort lines text → ⊥ = λ s. let few = s.short in omega (arith, few, size, long) in
+    let not : length text + 1 < room_size → ⊥ = λ few. omega (arith, few, size, long) in
     let all : text ++ y.tail ≡ x.text ++ (y.text ++ y.tail) = append_assoc x.text y.text y.tail in
     record {
       text = text;
@@ -145,7 +150,7 @@ line_taken lines from mid now a b x y =
       took = subst (λ xs. Took from now xs) (sym all) (took_both from mid now x.text (y.text ++ y.tail) x.took y.took);
       none = All-append (λ c. c ≢ end) x.text y.text x.none y.none;
       is = tail_is end text y.tail now (omega (arith, size, long)) y.is;
-      came = λ s. absurd (not s);
+      came = λ few. absurd (not few);
       held = subst (λ xs. Holds b xs) (sym all) (y.held x.text x.held);
     }
 
@@ -168,14 +173,17 @@ line_ended lines old last new from now p q r s t u passed quiet x closes =
         split = refl;
         none = x.none;
         is = line_is (end_of lines) x.text x.tail rest now x.is (λ over. ahead_over now rest over known);
-        right =
-            λ short.
-            let came = x.came short in
+        answers =
+            λ few.
+            let came = x.came few in
             record {
               value = came.value;
+              key = came.key;
               is = came.is;
+              key_told = told_key last.current.reading.key entry came.key came.key_is closes.key;
               right =
-                  subst (λ (t : Terms). IsFor t.rules t.most entry.key.is_lost came.value entry.answer) quiet.keeps (closes.right came.value came.came);
+                  λ short.
+                  subst (λ (t : Terms). IsFor t.rules t.most entry.key.is_lost came.value entry.answer) quiet.keeps (closes.right came.value (came.came short));
             };
         held = handed old.current last.current entry (x.text ++ x.tail) quiet.keeps x.held closes.held closes.may;
       },
@@ -226,3 +234,26 @@ front_came old new form field digits few null text kept key (inl ready) =
 front_came old new form field digits few null text kept key (inr (inl out)) = inr (inl (subst (λ o. IfSome o (λ a. new.answer ≡ Some a)) out kept))
 front_came old new form field digits few null text kept key (inr (inr lost)) =
     inr (inr (subst (λ o. IfSome o (λ a. new.answer ≡ Some a)) lost.0 kept, ap (λ k. k.is_lost) key ∙ lost.1))
+
+-- a field of a line and its KEY came
+pub field_came : (lines : Lines) (line value : List ℕ) (parts : Parts) (old mid next last : Reading) → AreParts lines.field line parts → value ≡ part_of line parts
+    → (IsReady old lines.form → IsReady mid lines.form) → (is_null value ≡ true → mid.answer ≡ None → next.answer ≡ Some answer.Null)
+    → (is_null value ≡ false → mid.answer ≡ None → IsOfDigits lines.form → length value < 2 ^ 63 → HasSpelled mid lines.form 0 []
+    → HasSpelled next lines.form (mark_in lines.form value) (characters_in lines.form (behind_mark lines.form value)))
+    → IfSome mid.answer (λ a. next.answer ≡ Some a) → next.key ≡ mid.key → ((v : Value) → Came next v → Came last v) → (HasNoKey old.key → IsKeyOf last.key (key_of line parts))
+    → FieldCame lines line old last
+field_came lines line value parts old mid next last are is ready null text kept key more named = record {
+  field = value;
+  key = key_of line parts;
+  is_field = subst (λ xs. IsValue lines.field line xs (key_of line parts)) (sym is) (parts_value lines.field line parts are);
+  came =
+      λ first short.
+      let few : length value < 2 ^ 63 =
+      let size = ap length is in
+      let of_take = length-take (parts.to - parts.from) (drop parts.from line) in
+      let of_drop = length-drop parts.from line in
+      let most = short.short in
+      omega (arith, size, of_take, of_drop, most) in
+      more (value_in lines.form value) (front_came mid next lines.form value short.digits few null text kept key (ready first));
+  key_is = named;
+}

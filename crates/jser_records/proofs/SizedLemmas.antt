@@ -19,13 +19,14 @@ use Rattle.jser_records.specs.Arriving.{Arriving, HasNone, IsOver, Took, ahead, 
 use Rattle.jser_records.specs.Frames.{Takes}
 use Rattle.jser_records.specs.Headers.{EndsKey, IsHeader, SaysLength, SaysNull}
 use Rattle.jser_records.specs.Held.{Holds, Keeps, Terms, terms_of}
-use Rattle.jser_records.specs.Keys.{HasAdded, HasNoKey, IsKey, IsKeyOf, KeepsKey, key_if}
+use Rattle.jser_records.specs.Keys.{HasNoKey, IsKeyOf, key_if}
 use Rattle.jser_records.specs.Readings.{AddsKey, Came, HasLost, HasPlain, HasRead, IsFor, Value, none, plain, cut_at, unknown}
 use Rattle.jser_records.specs.declared.run.Trouble.{Trouble}
 use Rattle.jser_records.specs.Records.{NextBy, RecordsEnd, RecordsGo}
 use Rattle.jser_records.specs.Sized.{At, FirstLine, HasBegun, HasNoLineEnd, HeadWaits, IsSized, LineEndOf, LineWaits, LossOf, SizedPart, TellsLoss, WithoutReturn, at_line, at_line_end, at_loss, line_end_at, next_at}
-use Rattle.jser_records.specs.Told.{Closes, Entry, KeyTold, Quiet, SaysAll, behind_it, ended, passed_over}
+use Rattle.jser_records.specs.Told.{Closes, Entry, Quiet, SaysAll, behind_it, ended, passed_over}
 use Rattle.jser_records.proofs.FrameLemmas.{key_kept, plain_begun, plain_held}
+use Rattle.jser_records.proofs.KeyLemmas.{told_key}
 use Rattle.jser_records.proofs.LineLemmas.{with_end}
 use Rattle.jser_records.proofs.RecordLemmas.{handed, part_said, records_both, records_none, records_then}
 use Rattle.jser_records.proofs.RoomLemmas.{ahead_over, ahead_took, all_passed, took_both, took_first, took_none}
@@ -83,21 +84,6 @@ first_line from mid size header bytes rest h is known split = record {
 
 -- ---- the KEY
 
-added_is : (old new : Key) (bytes : List ℕ) → HasNoKey old → HasAdded old new bytes → IsKey new (Some bytes)
-added_is old new bytes no_key added = (added.there, added.both ∙ ap (λ xs. xs ++ bytes) no_key.bytes, added.on)
-
-key_some : (key : Key) (bytes : List ℕ) → 0 < length bytes → IsKey key (Some bytes) → IsKey key (key_if bytes)
-key_some key [] some is = absurd (omega (arith, some))
-key_some key (c ∷ bytes) some is = is
-
-pub key_kept_some : (old new : Reading) (bytes : List ℕ) → 0 < length bytes → HasNoKey old.key → AddsKey old new bytes → IsKeyOf new.key (key_if bytes)
-key_kept_some old new bytes some no_key (inl adds) = inl (key_some new.key bytes some (added_is old.key new.key bytes no_key adds.1))
-key_kept_some old new bytes some no_key (inr long) = inr long.1
-
-pub key_kept_none : (key : Key) (bytes : List ℕ) → length bytes ≡ 0 → HasNoKey key → IsKeyOf key (key_if bytes)
-key_kept_none key [] empty no_key = inl no_key
-key_kept_none key (c ∷ bytes) empty no_key = absurd (omega (arith, empty))
-
 key_size : (line front key : List ℕ) (n : ℕ) → key ≡ take n line → length front < length line → EndsKey front key → n ≤ length line
 key_size line front key n is less (inl (empty, no_key)) =
     let taken : length key ≡ min n (length line) = ap length is ∙ length-take n line in
@@ -125,10 +111,6 @@ head_key a size key header h within = ap (λ xs. take key xs) h.both ∙ elim h.
   | inl cut ↦ ap (λ xs. take key (xs ++ h.tail)) cut ∙ ap (λ xs. take key xs) (append_assoc h.line (0x0D ∷ []) h.tail) ∙ take-append-le key h.line ((0x0D ∷ []) ++ h.tail) within
   | inr same ↦ ap (λ xs. take key (xs ++ h.tail)) (sym same.0) ∙ take-append-le key h.line h.tail within
 ]
-
-pub told_key : (old : Key) (entry : Entry) (has : Option (List ℕ)) → IsKeyOf old has → KeepsKey old entry.key entry.answer → KeyTold entry has
-told_key old entry has is (inl same) = inl (subst (λ k. IsKeyOf k has) (sym same) is)
-told_key old entry has is (inr out) = inr out
 
 -- ---- a value
 

@@ -8,9 +8,10 @@ use Rattle.jser_records.specs.declared.reading.Reading.{Reading}
 use Rattle.jser_records.specs.Arriving.{Arriving, HasNone, IsOver, Took, room_size}
 use Rattle.jser_records.specs.Fields.{IsBare, IsValue}
 use Rattle.jser_records.specs.Held.{Holds, HoldsMore, Terms}
-use Rattle.jser_records.specs.Readings.{Came, IsFor, IsOfDigits, Value, none, text_of}
+use Rattle.jser_records.specs.Keys.{HasNoKey, IsKeyOf}
+use Rattle.jser_records.specs.Readings.{Came, IsFor, IsOfDigits, IsReady, Value, none, text_of}
 use Rattle.jser_records.specs.Texts.{behind_mark, characters_in, is_null, mark_in}
-use Rattle.jser_records.specs.Told.{Entry, HandsOn}
+use Rattle.jser_records.specs.Told.{Entry, HandsOn, KeyTold}
 
 -- the byte that ends a line
 abbrev pub end_of : Lines → ℕ
@@ -20,12 +21,12 @@ end_of lines = if lines.zero then 0x00 else 0x0A
 abbrev pub value_in : Form → List ℕ → Value
 value_in form field = if is_null field then none else text_of form (mark_in form field) (characters_in form (behind_mark form field))
 
--- This is the value of a line, which is given without its end.
-pub record IsOfLine (lines : Lines) (text : List ℕ) (value : Value) : Type 0 where
+-- This is the value of a line, which is given without its end, and its KEY.
+pub record IsOfLine (lines : Lines) (text : List ℕ) (value : Value) (key : Option (List ℕ)) : Type 0 where
   pub bare : List ℕ
   pub is_bare : IsBare lines text bare
   pub field : List ℕ
-  pub is_field : IsValue lines.field bare field
+  pub is_field : IsValue lines.field bare field key
   pub is_value : value ≡ value_in lines.form field
 
 -- a line is short enough to be taken at once, and its value is a text of digits
@@ -33,11 +34,13 @@ pub record IsShort (lines : Lines) (text : List ℕ) : Type 0 where
   pub short : length text + 1 < room_size
   pub digits : IsOfDigits lines.form
 
--- its answer is right of its value
+-- its KEY is told, and its answer is right of its value, if it is short
 pub record AnswersLine (lines : Lines) (terms : Terms) (text : List ℕ) (entry : Entry) : Type 0 where
   pub value : Value
-  pub is : IsOfLine lines text value
-  pub right : IsFor terms.rules terms.most entry.key.is_lost value entry.answer
+  pub key : Option (List ℕ)
+  pub is : IsOfLine lines text value key
+  pub key_told : KeyTold entry key
+  pub right : IsShort lines text → IsFor terms.rules terms.most entry.key.is_lost value entry.answer
 
 -- This is the record of the line at the front of some bytes, and `rest` is what is behind it: a text, and the byte that ends it.
 -- The last line of an input may have no end, and is then not empty. Both are what is handed on of it.
@@ -47,22 +50,26 @@ pub record LineOf (lines : Lines) (terms : Terms) (bytes : List ℕ) (entry : En
   pub split : bytes ≡ (text ++ tail) ++ rest
   pub none : HasNone (end_of lines) text
   pub is : (tail ≡ end_of lines ∷ []) ⊎ ((tail ≡ []) × (0 < length text) × (rest ≡ []))
-  pub right : IsShort lines text → AnswersLine lines terms text entry
+  pub answers : length text + 1 < room_size → AnswersLine lines terms text entry
   pub held : HandsOn terms entry (text ++ tail)
 
 -- ---- as it is read
 
--- the value of a line came
+-- the value of a line came, if it is short, and its KEY
 pub record LineCame (lines : Lines) (text : List ℕ) (r : Reading) : Type 0 where
   pub value : Value
-  pub is : IsOfLine lines text value
-  pub came : Came r value
+  pub key : Option (List ℕ)
+  pub is : IsOfLine lines text value key
+  pub came : IsShort lines text → Came r value
+  pub key_is : IsKeyOf r.key key
 
--- the field that is the value came
-pub record FieldCame (lines : Lines) (line : List ℕ) (r : Reading) : Type 0 where
+-- the field that is the value came, and the KEY beside it
+pub record FieldCame (lines : Lines) (line : List ℕ) (old new : Reading) : Type 0 where
   pub field : List ℕ
-  pub is_field : IsValue lines.field line field
-  pub came : Came r (value_in lines.form field)
+  pub key : Option (List ℕ)
+  pub is_field : IsValue lines.field line field key
+  pub came : IsReady old lines.form → IsShort lines line → Came new (value_in lines.form field)
+  pub key_is : HasNoKey old.key → IsKeyOf new.key key
 
 -- bytes of a line were taken, without a line end
 pub record TakesText (end : ℕ) (from now : Arriving) (old new : Record) : Type 0 where
@@ -99,5 +106,5 @@ pub record TakesLine (lines : Lines) (from now : Arriving) (r : Record) : Type 0
   pub took : Took from now (text ++ tail)
   pub none : HasNone (end_of lines) text
   pub is : (tail ≡ end_of lines ∷ []) ⊎ ((tail ≡ []) × (0 < length text) × IsOver now)
-  pub came : IsShort lines text → LineCame lines text r.reading
+  pub came : length text + 1 < room_size → LineCame lines text r.reading
   pub held : Holds r (text ++ tail)

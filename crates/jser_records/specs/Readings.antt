@@ -14,7 +14,7 @@ use Rattle.jser_scan.specs.Lines.{is_accepted}
 use Rattle.jser_records.specs.declared.answer.Answer.{Answer}
 use Rattle.jser_records.specs.declared.answer.Answer.TheVariants as answer
 use Rattle.jser_records.specs.declared.reading.Reading.{Reading}
-use Rattle.jser_records.specs.Keys.{HasAdded, HasLostKey}
+use Rattle.jser_records.specs.Keys.{HasAdded, HasNoRoom}
 use Rattle.jser_records.specs.Judged.{HasJudged, IsRead, IsSound, Judging}
 
 -- What is answered of a record whose value is these bytes is right of them. Where a check answers, it is that of these bytes,
@@ -171,7 +171,7 @@ Came r value = HasCome r value ⊎ ((r.answer ≡ Some (answer.Checked found.Out
 abbrev pub AddsKey : (old new : Reading) → List ℕ → Type 0
 AddsKey old new bytes =
     ((new ≡ record old { key = new.key }) × HasAdded old.key new.key bytes)
-    ⊎ ((new ≡ record old { key = new.key; answer = Some answer.LongKey }) × HasLostKey new.key)
+    ⊎ ((new ≡ record old { key = new.key; answer = Some answer.LongKey }) × HasNoRoom old.key new.key bytes)
 
 -- no character of a value in this form came so far; or it is answered why there is none
 abbrev pub IsReady : Reading → Form → Type 0

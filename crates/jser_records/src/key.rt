@@ -1,7 +1,6 @@
 //! The KEY of a record: what its line has beside the value.
 
-ghost use Rattle.std.specs.Prelude.{◌≡◌, true, false};
-ghost use Rattle.jser_records.specs.Keys.{HasAdded, HasLostKey, HasNoKey};
+ghost use Rattle.std.specs.Prelude.{◌≡◌, ◌≤◌, true, false, vec_capacity};
 
 use std::alloc::{AllocError, Global};
 use std::str;
@@ -15,9 +14,12 @@ pub(crate) struct Key {
     bytes: Vec<u8>,
     is_there: bool,
     is_lost: bool,
+    ghost room: { 65535 ≤ vec_capacity bytes },
 }
 
 impl Key {
+    ghost use Rattle.jser_records.specs.Keys.{HasAdded, HasLostKey, HasNoKey, HasNoRoom};
+
     /// None so far.
     pub(crate) fn new(alloc: Global) -> Result<Key, AllocError> {
         let bytes = Vec::with_capacity(alloc, MOST)?;
@@ -39,7 +41,7 @@ impl Key {
 
     /// Adds a front of the KEY, or what is behind it. `false` where it is too long: then it is lost.
     pub(crate) fn add(&mut self, bytes: &[u8]) -> bool
-        ensures lost { result ≡ false → HasLostKey self.new }
+        ensures lost { result ≡ false → HasNoRoom self.old self.new bytes.now }
         ensures added { result ≡ true → HasAdded self.old self.new bytes.now }
     {
         let room = MOST.saturating_sub(self.bytes.len());

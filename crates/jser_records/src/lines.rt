@@ -1,12 +1,13 @@
 //! Records that are lines of text. A line is taken whole where it fits the room for what waits, else piece after piece.
 
-ghost use Rattle.std.specs.Prelude.{◌≡◌, ◌≤◌, ◌<◌, ◌+◌, ◌^◌, ◌++◌, ◌∷◌, [], length, true, false, IfSome, OnOk, Ok, Some, None};
+ghost use Rattle.std.specs.Prelude.{◌≡◌, ◌≤◌, ◌<◌, ◌+◌, ◌^◌, ◌==◌, ◌++◌, ◌∷◌, ℕ, List, [], length, take, drop, true, false, if◌then◌else◌, Option, IfSome, OnOk, Ok, Some, None};
 ghost use Rattle.std.specs.Io.KnownBytes.{IsAtEnd};
 ghost use Rattle.jser_inputs.specs.declared.Form.{Form as ToldForm};
 ghost use Rattle.jser_records.specs.Arriving.{HasNone, IsBefore, IsOver, room_size};
 ghost use Rattle.jser_records.specs.Fields.{IsBare};
-ghost use Rattle.jser_records.specs.Lines.{FieldCame, IsShort, LineCame, StretchTakes, TakesFirst, TakesLine, end_of};
 ghost use Rattle.jser_records.specs.Held.{Holds, HoldsMore, HoldsSame, Keeps};
+ghost use Rattle.jser_records.specs.Keys.{HasNoKey, IsKeyOf, longer_key};
+ghost use Rattle.jser_records.specs.Lines.{FieldCame, LineCame, StretchTakes, TakesFirst, TakesLine, end_of};
 ghost use Rattle.jser_records.specs.Readings.{Came, HasSpelled, IsOfDigits, IsReady};
 ghost use Rattle.jser_records.specs.Readings.{Value as ToldValue};
 ghost use Rattle.jser_records.specs.Records.{RecordsGoTo, RecordsTo};
@@ -138,7 +139,7 @@ fn line_end(lines: Lines) -> &'static [u8]
 
 /// Takes a whole line, without its end, which is told beside it.
 fn take_line(current: &mut Record<'_>, lines: Lines, line: &[u8], end: &[u8])
-    ensures came { IsShort lines line.now → LineCame lines line.now current.new.reading }
+    ensures came { LineCame lines line.now current.new.reading }
     ensures held { Holds current.new (line.now ++ end.now) }
     ensures keeps { Keeps current.old current.new }
 {
@@ -161,7 +162,7 @@ fn without_return(lines: Lines, line: &[u8]) -> &[u8]
 
 /// Takes the first bytes of a line, all of its KEY before the value among them.
 fn take_front(current: &mut Record<'_>, lines: Lines, line: &[u8]) -> Stretch
-    ensures came { IsReady current.old.reading lines.form → IsShort lines line.now → FieldCame lines line.now current.new.reading }
+    ensures came { FieldCame lines line.now current.old.reading current.new.reading }
     ensures held { HoldsSame current.old current.new }
     ensures keeps { Keeps current.old current.new }
 {
@@ -171,8 +172,7 @@ fn take_front(current: &mut Record<'_>, lines: Lines, line: &[u8]) -> Stretch
     let (value, behind) = rest.split_at(parts.to - parts.from);
     take_value_front(current, lines.form, value);
     match behind {
-        [] if lines.field.is_none() => Stretch::LastValue,
-        [] => Stretch::Value,
+        [] => value_stretch(lines),
         _ => {
             take_behind(current, behind, parts.from == 0);
             Stretch::Behind
@@ -180,30 +180,44 @@ fn take_front(current: &mut Record<'_>, lines: Lines, line: &[u8]) -> Stretch
     }
 }
 
+/// In the value.
+fn value_stretch(lines: Lines) -> Stretch {
+    match lines.field {
+        None => Stretch::LastValue,
+        Some(_) => Stretch::Value,
+    }
+}
+
 /// Takes what is before a value: the fields there, if there is one.
-#[tactic(auto, using(crate::proofs::LineLemmas::ready_keyed, crate::proofs::HeldLemmas::holds_keyed, crate::proofs::HeldLemmas::keeps_keyed))]
+#[tactic(auto, using(crate::proofs::KeyLemmas::key_before, crate::proofs::KeyLemmas::key_first, crate::proofs::LineLemmas::ready_keyed, crate::proofs::HeldLemmas::holds_keyed, crate::proofs::HeldLemmas::keeps_keyed))]
 fn take_before(current: &mut Record<'_>, parts: Parts, before: &[u8])
-    requires { parts.front ≤ length before.now }
+    requires within { parts.front ≤ length before.now }
     ensures ready { (form : ToldForm) → IsReady current.old.reading form → IsReady current.new.reading form }
+    ensures key { HasNoKey current.old.reading.key → IsKeyOf current.new.reading.key (if parts.from == 0 then None else Some (take parts.front before.now)) }
     ensures held { HoldsSame current.old current.new }
     ensures keeps { Keeps current.old current.new }
 {
-    if parts.from > 0 || parts.front > 0 {
+    if parts.from > 0 {
         let (front, _) = before.split_at(parts.front);
         current.reading.add_key(front);
     }
 }
 
 /// Takes what is behind a value, from the TAB on. It is the first of the KEY where nothing is before the value.
-#[tactic(auto, using(crate::proofs::LineLemmas::came_keyed, crate::proofs::HeldLemmas::holds_keyed, crate::proofs::HeldLemmas::keeps_keyed))]
+#[tactic(auto, using(crate::proofs::KeyLemmas::key_behind_first, crate::proofs::LineLemmas::came_keyed, crate::proofs::HeldLemmas::holds_keyed, crate::proofs::HeldLemmas::keeps_keyed))]
 fn take_behind(current: &mut Record<'_>, behind: &[u8], is_first: bool)
     ensures came { (value : ToldValue) → Came current.old.reading value → Came current.new.reading value }
+    ensures key { 0 < length behind.now → (has : Option (List ℕ)) → IsKeyOf current.old.reading.key has
+        → IsKeyOf current.new.reading.key (longer_key has (drop (if is_first then 1 else 0) behind.now)) }
     ensures held { HoldsSame current.old current.new }
     ensures keeps { Keeps current.old current.new }
 {
-    let skipped = if is_first { 1 } else { 0 };
-    if let Some(rest) = behind.get(skipped..) {
-        current.reading.add_key(rest);
+    if let [_, rest @ ..] = behind {
+        if is_first {
+            current.reading.add_key(rest);
+        } else {
+            current.reading.add_key(behind);
+        }
     }
 }
 

@@ -1,7 +1,7 @@
 //! The fields of a line: TAB is between them, one is the value, and the others are the KEY.
 
-ghost use Rattle.std.specs.Prelude.{◌≤◌, ◌-◌, length, drop};
-ghost use Rattle.jser_records.specs.Fields.{AreWithin, IsField, IsFirstField, IsLastField, IsValue, part_of};
+ghost use Rattle.std.specs.Prelude.{◌≤◌, ◌-◌, ℕ, None, Some, length};
+ghost use Rattle.jser_records.specs.Fields.{AreParts, AreWithin, StartsAt};
 
 use memchr::{memchr, memrchr};
 
@@ -20,7 +20,7 @@ pub(crate) struct Parts {
 /// empty, and all of the line is before it.
 pub(crate) fn parts_of(line: &[u8], field: Option<u64>) -> Parts
     ensures within { AreWithin (length line.now) result }
-    ensures value { IsValue field line.now (part_of line.now result) }
+    ensures value { AreParts field line.now result }
 {
     match field {
         None => last_part(line),
@@ -29,10 +29,9 @@ pub(crate) fn parts_of(line: &[u8], field: Option<u64>) -> Parts
 }
 
 /// The last field.
-#[tactic(auto, using(crate::proofs::FieldLemmas::last_behind, crate::proofs::FieldLemmas::last_all))]
 fn last_part(line: &[u8]) -> Parts
     ensures within { AreWithin (length line.now) result }
-    ensures value { IsLastField line.now (part_of line.now result) }
+    ensures value { AreParts None line.now result }
 {
     match memrchr(b'\t', line) {
         Some(at) => Parts {
@@ -51,7 +50,7 @@ fn last_part(line: &[u8]) -> Parts
 /// The field of a number.
 fn numbered_part(line: &[u8], number: u64) -> Parts
     ensures within { AreWithin (length line.now) result }
-    ensures value { IsField (number - 1) line.now (part_of line.now result) }
+    ensures value { AreParts (Some number) line.now result }
 {
     let mut from = 0;
     let mut left = number.saturating_sub(1);
@@ -76,7 +75,7 @@ fn numbered_part(line: &[u8], number: u64) -> Parts
 fn part_from(line: &[u8], from: usize) -> Parts
     requires { from ≤ length line.now }
     ensures within { AreWithin (length line.now) result }
-    ensures value { IsFirstField (drop from line.now) (part_of line.now result) }
+    ensures value { (number : ℕ) → StartsAt line.now from (number - 1) → AreParts (Some number) line.now result }
 {
     let (_, rest) = line.split_at(from);
     match memchr(b'\t', rest) {

@@ -208,7 +208,7 @@ fn begin_record<R: Source>(inbox: &mut Inbox<R>, current: &mut Record<'_>, key: 
 }
 
 /// Keeps the KEY of a record, if it has one.
-#[tactic(auto, using(crate::proofs::SizedLemmas::begun_keyed, crate::proofs::SizedLemmas::key_kept_some, crate::proofs::SizedLemmas::key_kept_none, crate::proofs::HeldLemmas::holds_keyed, crate::proofs::HeldLemmas::keeps_keyed))]
+#[tactic(auto, using(crate::proofs::SizedLemmas::begun_keyed, crate::proofs::KeyLemmas::key_kept_some, crate::proofs::KeyLemmas::key_kept_none, crate::proofs::HeldLemmas::holds_keyed, crate::proofs::HeldLemmas::keeps_keyed))]
 fn keep_key(current: &mut Record<'_>, bytes: &[u8])
     ensures begun { HasBegun current.old.reading → HasBegun current.new.reading }
     ensures key { HasNoKey current.old.reading.key → IsKeyOf current.new.reading.key (key_if bytes.now) }

@@ -2,7 +2,7 @@ use Rattle.std.proofs.Common.{rules, ◌≤◌, ◌<◌, ◌++◌, [], length, a
 use Rattle.std.proofs.lemmas.List.{take_all}
 use Rattle.jser_records.specs.declared.layout.Shape.TheVariants as shape
 use Rattle.jser_records.specs.Held.{Holds}
-use Rattle.jser_records.specs.Lines.{IsShort, LineCame}
+use Rattle.jser_records.specs.Lines.{LineCame}
 use Rattle.jser_records.specs.Sized.{at_line}
 use Rattle.jser_records.proofs.LineLemmas.{last_line, line_ended}
 use Rattle.jser_records.proofs.RecordLemmas.{records_none}
@@ -22,6 +22,6 @@ returns-clause-records g c =
     line_ended c.args.lines was (record was { current = c.take_line.new.current }) c.close.new.self from c.pass.new.self _ _ _ _ _ _ c.close.result
     (quiet_changed was c.take_line.new.current _ _ c.take_line.ensures.keeps)
     (last_line c.args.lines from c.pass.new.self (length c.waiting-count.result.now) c.take_line.new.current c.requires.none some all c.requires.ends c.pass.ensures
-    (subst (λ xs. IsShort c.args.lines xs → LineCame c.args.lines xs c.take_line.new.current.reading) (c.front.ensures ∙ take_all _ from.waiting all) c.take_line.ensures.came)
+    (subst (λ xs. LineCame c.args.lines xs c.take_line.new.current.reading) (c.front.ensures ∙ take_all _ from.waiting all) c.take_line.ensures.came)
     (subst (λ xs. Holds c.take_line.new.current (xs ++ [])) (c.front.ensures ∙ take_all _ from.waiting all) c.take_line.ensures.held))
     c.close.ensures.closes

@@ -1,20 +1,27 @@
-use Rattle.std.proofs.Common.{[], ◌++◌, refl, arith}
+use Rattle.std.proofs.Common.{[], ◌++◌, refl, subst, sym, ◌∙◌, arith}
+use Rattle.jser_records.specs.Keys.{HasNoKey}
 use Rattle.jser_records.specs.Lines.{FieldCame, value_in}
+use Rattle.jser_records.proofs.FrameLemmas.{held_key}
 use Rattle.jser_records.proofs.LineLemmas.{ready_begun}
 use Rattle.jser_records.proofs.lines.take_line.Goals as goal
 
 pub returns-clause-came : goal.returns-clause-came
-returns-clause-came c = λ short.
+returns-clause-came c =
     let form = c.args.lines.form in
     let bare = c.without_return.result.now in
-    let f : FieldCame c.args.lines bare c.take_front.new.current.reading =
-    c.take_front.ensures.came
-    (ready_begun c.begin.new.self.reading c.hold.new.self.reading c.hold-2.new.self.reading form c.begin.ensures.open c.begin.ensures.spelled c.hold.ensures.kept c.hold-2.ensures.kept)
-    (record { short = let within = c.without_return.ensures.within in let few = short.short in omega (arith, within, few); digits = short.digits }) in
+    let begun = c.begin.new.self.reading in
+    let mid = c.hold.new.self.reading in
+    let last = c.hold-2.new.self.reading in
+    let f : FieldCame c.args.lines bare last c.take_front.new.current.reading = c.take_front.ensures.came in
     record {
       value = value_in form f.field;
+      key = f.key;
       is = record { bare = bare; is_bare = c.without_return.ensures.bare; field = f.field; is_field = f.is_field; is_value = refl };
-      came = f.came;
+      came =
+          λ short.
+          f.came (ready_begun begun mid last form c.begin.ensures.open c.begin.ensures.spelled c.hold.ensures.kept c.hold-2.ensures.kept)
+          (record { short = let within = c.without_return.ensures.within in let few = short.short in omega (arith, within, few); digits = short.digits });
+      key_is = f.key_is (subst HasNoKey (sym (held_key mid last c.hold-2.ensures.kept ∙ held_key begun mid c.hold.ensures.kept)) c.begin.ensures.key);
     }
 
 pub returns-clause-held : goal.returns-clause-held

@@ -1,10 +1,14 @@
-use Rattle.std.proofs.Common.{◌≡◌, ◌-◌, suc, List, ℕ, [], Some, None, length, take, drop, sym, ap, subst, arith}
-use Rattle.std.proofs.lemmas.List.{length-drop}
+use Rattle.std.proofs.Common.{◌≡◌, ◌+◌, ◌-◌, List, ℕ, Some, None, drop, subst, arith}
 use Rattle.memchr.specs.Find.{IsFirstByte, is_byte}
-use Rattle.jser_records.specs.Arriving.{IsBefore}
-use Rattle.jser_records.specs.Fields.{IsField}
-use Rattle.jser_records.proofs.FieldLemmas.{field_missing, field_next, first_tab, no_tab}
+use Rattle.jser_records.specs.Fields.{StartsAt}
+use Rattle.jser_records.proofs.FieldLemmas.{first_tab, no_tab, numbered_missing, starts_next, starts_none}
 use Rattle.jser_records.proofs.parts.numbered_part.Goals as goal
+
+pub fields-init : goal.fields-init
+fields-init c =
+    let left = c.saturating_sub-left.ensures in
+    let none : 0 ≡ c.args.number - 1 - c.saturating_sub-left.result = omega (arith, left) in
+    record { few = omega (arith, left); starts = subst (λ n. StartsAt c.args.line.now 0 n) none (starts_none c.args.line.now) }
 
 pub fields-preserved : goal.fields-preserved
 fields-preserved c =
@@ -12,13 +16,15 @@ fields-preserved c =
     let from = c.fields.from in
     let at = c.in-Some.at in
     let left = c.fields.left in
+    let few = c.fields.invariant.few in
     let more = c.fields-test.true in
-    let one : suc (left - 1) ≡ left = omega (arith, more) in
-    let b : IsBefore 0x09 (drop from line) at =
-    first_tab (drop from line) at (subst (λ xs. IsFirstByte (is_byte 0x09) xs (Some at)) c.split_at.ensures.back c.in-Some.ensures) in
+    let one : c.args.number - 1 - left + 1 ≡ c.args.number - 1 - (left - 1) = omega (arith, few, more) in
     record {
-      within = let size = length-drop from line in let inside = b.inside in omega (arith, size, inside);
-      field = λ value f. c.fields.invariant.field value (subst (λ n. IsField n (drop from line) value) one (field_next line value from at (left - 1) b f));
+      few = omega (arith, few);
+      starts =
+          subst (λ n. StartsAt line (from + (at + 1)) n) one
+          (starts_next line from at (c.args.number - 1 - left) c.fields.invariant.starts
+          (first_tab (drop from line) at (subst (λ xs. IsFirstByte (is_byte 0x09) xs (Some at)) c.split_at.ensures.back c.in-Some.ensures)));
     }
 
 pub returns-in-None-clause-value : goal.returns-in-None-clause-value
@@ -26,11 +32,13 @@ returns-in-None-clause-value c =
     let line : List ℕ = c.args.line.now in
     let from = c.fields.from in
     let left = c.fields.left in
-    let more = c.fields-test.true in
-    let one : suc (left - 1) ≡ left = omega (arith, more) in
-    let zeroth : length line - length line ≡ 0 = omega arith in
-    let none : take (length line - length line) (drop (length line) line) ≡ [] = ap (λ n. take n (drop (length line) line)) zeroth in
-    subst (λ value. IsField (c.args.number - 1) line value) (sym none)
-    (c.fields.invariant.field []
-    (subst (λ n. IsField n (drop from line) []) one
-    (field_missing (drop from line) (left - 1) (no_tab (drop from line) (subst (λ xs. IsFirstByte (is_byte 0x09) xs None) c.split_at.ensures.back c.in-None.ensures)))))
+    let few = c.fields.invariant.few in
+    numbered_missing line c.args.number from (c.args.number - 1 - left) left c.fields.invariant.starts (omega (arith, few)) c.fields-test.true
+    (no_tab (drop from line) (subst (λ xs. IsFirstByte (is_byte 0x09) xs None) c.split_at.ensures.back c.in-None.ensures))
+
+pub returns-clause-value : goal.returns-clause-value
+returns-clause-value c =
+    let left = c.fields.left in
+    let none = c.fields-test.false in
+    let all : c.args.number - 1 - left ≡ c.args.number - 1 = omega (arith, none) in
+    c.part_from.ensures.value c.args.number (subst (λ n. StartsAt c.args.line.now c.fields.from n) all c.fields.invariant.starts)
