@@ -11,7 +11,7 @@ use Rattle.jser_records.specs.Fields.{AreParts, IsValue, KeyBeside, StartsAt, ke
 use Rattle.jser_records.specs.Keys.{key_if}
 use Rattle.jser_records.proofs.RoomLemmas.{found_first, found_none}
 
-none_in : (byte : ℕ) → HasNone byte []
+pub none_in : (byte : ℕ) → HasNone byte []
 none_in byte = λ k d less. absurd (omega (arith, less))
 
 pub first_tab : (rest : List ℕ) (at : ℕ) → IsFirstByte (is_byte 0x09) rest (Some at) → IsBefore 0x09 rest at
@@ -72,7 +72,7 @@ last_behind line at h =
 
 -- ---- a field by its number
 
-tabs_both : (xs ys : List ℕ) → tabs_in (xs ++ ys) ≡ tabs_in xs + tabs_in ys
+pub tabs_both : (xs ys : List ℕ) → tabs_in (xs ++ ys) ≡ tabs_in xs + tabs_in ys
 tabs_both [] ys = omega arith
 tabs_both (c ∷ xs) ys = let more = tabs_both xs ys in omega (arith, more)
 

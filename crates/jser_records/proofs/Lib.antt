@@ -13,6 +13,7 @@ pub mod RecordLemmas
 pub mod RoomLemmas
 pub mod SizedLemmas
 pub mod SpareLemmas
+pub mod StretchLemmas
 pub mod TextLemmas
 pub mod ToldLemmas
 pub mod WordLemmas

@@ -13,15 +13,17 @@ use Rattle.jser_records.specs.declared.key.Key.{Key}
 use Rattle.jser_records.specs.declared.layout.Lines.{Lines}
 use Rattle.jser_records.specs.declared.layout.Shape.TheVariants as shape
 use Rattle.jser_records.specs.declared.current.Record.{Record}
+use Rattle.jser_records.specs.declared.lines.Stretch.{Stretch}
 use Rattle.jser_records.specs.declared.parts.Parts.{Parts}
 use Rattle.jser_records.specs.declared.reading.Reading.{Reading}
 use Rattle.jser_records.specs.Arriving.{Arriving, HasNone, IsBefore, IsOver, Took, room_size}
 use Rattle.jser_records.specs.Fields.{AreParts, IsValue, key_of, part_of}
 use Rattle.jser_records.specs.Held.{Holds, HoldsMore, Terms}
-use Rattle.jser_records.specs.Keys.{HasNoKey, IsKeyOf}
+use Rattle.jser_records.specs.Keys.{HasNoKey, IsKeyOf, most_key}
 use Rattle.jser_records.specs.Lines.{FieldCame, LineCame, TakesFirst, TakesLine, TakesRest, TakesText, end_of, value_in}
 use Rattle.jser_records.specs.Readings.{AddsKey, Came, HasCome, HasSpelled, IsFor, IsOfDigits, IsReady, Value, none, plain, text_of, cut_at, unknown}
 use Rattle.jser_records.specs.Records.{RecordsGo}
+use Rattle.jser_records.specs.Stretches.{GoesOn, InStretch, IsOn, LineNamed, PieceEnds}
 use Rattle.jser_records.specs.Texts.{behind_mark, characters_in, is_null, mark_in}
 use Rattle.jser_records.specs.Sized.{at_line}
 use Rattle.jser_records.specs.Told.{Closes, Entry, Quiet, ended}
@@ -30,6 +32,7 @@ use Rattle.jser_records.proofs.HeldLemmas.{holds_both, holds_none}
 use Rattle.jser_records.proofs.KeyLemmas.{told_key}
 use Rattle.jser_records.proofs.RecordLemmas.{handed, part_said}
 use Rattle.jser_records.proofs.RoomLemmas.{ahead_over, all_passed, took_both, took_first}
+use Rattle.jser_records.proofs.StretchLemmas.{goes_later, goes_on, line_named, none_ends, some_before, some_left}
 
 -- the bytes before the first line end, and that
 pub with_end : (end : ℕ) (waiting : List ℕ) (count : ℕ) → IsBefore end waiting count → take (count + 1) waiting ≡ take count waiting ++ (end ∷ [])
@@ -51,19 +54,26 @@ whole_line lines old new count r b is came held = record {
   took = took_ended (end_of lines) old new count b is;
   none = b.none;
   is = inl refl;
-  came = λ few. came;
+  came = came;
   held = held;
 }
 
-pub rest_ended : (end : ℕ) (old new : Arriving) (count : ℕ) (was mid last : Record) → IsBefore end old.waiting count → new ≡ record old { waiting = drop (count + 1) old.waiting }
-    → HoldsMore was mid (take count old.waiting) → HoldsMore mid last (end ∷ []) → TakesRest end old new was last
-rest_ended end old new count was mid last b is first more = record {
+-- the last bytes came: the line is told its KEY
+pub rest_ended : (lines : Lines) (s : Stretch) (old new : Arriving) (count : ℕ) (was mid last : Record) → IsBefore (end_of lines) old.waiting count
+    → new ≡ record old { waiting = drop (count + 1) old.waiting } → HoldsMore was mid (take count old.waiting) → HoldsMore mid last (end_of lines ∷ []) → last.reading.key ≡ mid.reading.key
+    → ((line : List ℕ) → most_key < length line → InStretch s lines.field line was.reading.key → PieceEnds lines line (take count old.waiting) mid.reading.key)
+    → TakesRest lines s old new was last
+rest_ended lines s old new count was mid last b is first more same ends = record {
   text = take count old.waiting;
-  tail = end ∷ [];
-  took = took_ended end old new count b is;
+  tail = end_of lines ∷ [];
+  took = took_ended (end_of lines) old new count b is;
   none = b.none;
   is = inl refl;
-  held = holds_both was mid last (take count old.waiting) (end ∷ []) first more;
+  held = holds_both was mid last (take count old.waiting) (end_of lines ∷ []) first more;
+  ends =
+      λ line on.
+      line_named lines line (take count old.waiting) last.reading.key (subst (λ k. PieceEnds lines line (take count old.waiting) k) (sym same) (ends line on.long on.is_in))
+      (λ front is none. some_before (end_of lines) old.waiting count b (on.whole front is) none);
 }
 
 none_first : (end : ℕ) (xs : List ℕ) (n : ℕ) → HasNone end xs → HasNone end (take n xs)
@@ -71,35 +81,70 @@ none_first end xs n clean = λ k d inside same.
     let size : length (take n xs) ≡ min n (length xs) = length-take n xs in
     clean k d (omega (arith, inside, size)) (sym (get_or-take n xs k d (omega (arith, inside, size))) ∙ same)
 
-pub some_taken : (end : ℕ) (old new : Arriving) (count : ℕ) (was last : Record) → HasNone end old.waiting → new ≡ record old { waiting = drop count old.waiting }
-    → HoldsMore was last (take count old.waiting) → TakesText end old new was last
-some_taken end old new count was last clean is held =
-    record { text = take count old.waiting; took = took_first old new count is; none = none_first end old.waiting count clean; held = held }
+left_waiting : (old new : Arriving) (count : ℕ) → new ≡ record old { waiting = drop count old.waiting } → new.waiting ≡ drop count old.waiting
+left_waiting old new count is = ap (λ (a : Arriving). a.waiting) is
 
-pub first_taken : (end : ℕ) (old new : Arriving) (count : ℕ) (r : Record) → HasNone end old.waiting → length old.waiting ≡ room_size → length old.waiting ≤ count + 1
-    → new ≡ record old { waiting = drop count old.waiting } → Holds r (take count old.waiting) → TakesFirst end old new r
-first_taken end old new count r clean long most is held = record {
+pub some_taken : (lines : Lines) (s next : Stretch) (old new : Arriving) (count : ℕ) (was last : Record) → HasNone (end_of lines) old.waiting → new ≡ record old { waiting = drop count old.waiting }
+    → (length old.waiting ≤ count → (front : List ℕ) → old.waiting ≡ front ++ (0x0D ∷ []) → ⊥) → HoldsMore was last (take count old.waiting)
+    → ((line : List ℕ) → most_key < length line → InStretch s lines.field line was.reading.key → InStretch next lines.field (line ++ take count old.waiting) last.reading.key)
+    → TakesText lines s next old new was last
+some_taken lines s next old new count was last clean is whole held goes = record {
   text = take count old.waiting;
   took = took_first old new count is;
-  none = none_first end old.waiting count clean;
-  long =
-      let size : length (take count old.waiting) ≡ min count (length old.waiting) = length-take count old.waiting in
-      let left : room_size ≤ length (take count old.waiting) + 1 = omega (arith, size, long, most) in left;
+  none = none_first (end_of lines) old.waiting count clean;
   held = held;
+  on =
+      λ line on.
+      record {
+        long = let size = length-append line (take count old.waiting) in let has = on.long in omega (arith, size, has);
+        is_in = goes line on.long on.is_in;
+        whole =
+            λ front is_front.
+            subst (λ xs. GoesOn (end_of lines) xs) (sym (left_waiting old new count is)) (goes_on (end_of lines) line old.waiting front count clean whole on.whole is_front);
+      };
 }
+
+pub first_taken : (lines : Lines) (s : Stretch) (old new : Arriving) (count : ℕ) (r : Record) → HasNone (end_of lines) old.waiting → length old.waiting ≡ room_size → length old.waiting ≤ count + 1
+    → (length old.waiting ≤ count → (front : List ℕ) → old.waiting ≡ front ++ (0x0D ∷ []) → ⊥) → new ≡ record old { waiting = drop count old.waiting } → Holds r (take count old.waiting)
+    → (most_key < length (take count old.waiting) → InStretch s lines.field (take count old.waiting) r.reading.key) → TakesFirst lines s old new r
+first_taken lines s old new count r clean long most whole is held named =
+    let size : length (take count old.waiting) ≡ min count (length old.waiting) = length-take count old.waiting in
+    let left : room_size ≤ length (take count old.waiting) + 1 = omega (arith, size, long, most) in
+    let many : most_key < length (take count old.waiting) = omega (arith, left) in
+    record {
+      text = take count old.waiting;
+      took = took_first old new count is;
+      none = none_first (end_of lines) old.waiting count clean;
+      long = left;
+      held = held;
+      on =
+          record {
+            long = many;
+            is_in = named many;
+            whole =
+                λ front is_front.
+                subst (λ xs. GoesOn (end_of lines) xs) (sym (left_waiting old new count is))
+                (goes_on (end_of lines) [] old.waiting front count clean whole (λ f none. absurd (none_ends 0x0D f none)) is_front);
+          };
+    }
 
 all_taken : (old new : Arriving) (count : ℕ) → length old.waiting ≤ count → new ≡ record old { waiting = drop count old.waiting } → Took old new old.waiting
 all_taken old new count all is = subst (λ xs. Took old new xs) (take_all count old.waiting all) (took_first old new count is)
 
-pub rest_last : (end : ℕ) (old new : Arriving) (count : ℕ) (was last : Record) → HasNone end old.waiting → length old.waiting ≤ count → IsAtEnd old.to_come
-    → new ≡ record old { waiting = drop count old.waiting } → HoldsMore was last old.waiting → TakesRest end old new was last
-rest_last end old new count was last clean all ends is held = record {
+pub rest_last : (lines : Lines) (s : Stretch) (old new : Arriving) (count : ℕ) (was last : Record) → HasNone (end_of lines) old.waiting → length old.waiting ≤ count → IsAtEnd old.to_come
+    → new ≡ record old { waiting = drop count old.waiting } → HoldsMore was last old.waiting
+    → ((line : List ℕ) → most_key < length line → InStretch s lines.field line was.reading.key → PieceEnds lines line old.waiting last.reading.key) → TakesRest lines s old new was last
+rest_last lines s old new count was last clean all ends is held named = record {
   text = old.waiting;
   tail = [];
   took = subst (λ xs. Took old new xs) (sym (append-nil old.waiting)) (all_taken old new count all is);
   none = clean;
   is = inr (refl, all_passed old new count is all ends);
   held = subst (λ xs. HoldsMore was last xs) (sym (append-nil old.waiting)) held;
+  ends =
+      λ line on.
+      line_named lines line old.waiting last.reading.key (named line on.long on.is_in)
+      (λ front is_front none. some_left (end_of lines) old.waiting (on.whole front is_front) none);
 }
 
 pub last_line : (lines : Lines) (old new : Arriving) (count : ℕ) (r : Record) → HasNone (end_of lines) old.waiting → 0 < length old.waiting → length old.waiting ≤ count
@@ -111,38 +156,60 @@ last_line lines old new count r clean some all ends is came held = record {
   took = subst (λ xs. Took old new xs) (sym (append-nil old.waiting)) (all_taken old new count all is);
   none = clean;
   is = inr (refl, some, all_passed old new count is all ends);
-  came = λ few. came;
+  came = came;
   held = held;
 }
 
-pub first_more : (end : ℕ) (from mid now : Arriving) (a b : Record) → TakesFirst end from mid a → TakesText end mid now a b → TakesFirst end from now b
-first_more end from mid now a b x y = record {
+pub first_more : (lines : Lines) (s next : Stretch) (from mid now : Arriving) (a b : Record) → TakesFirst lines s from mid a → TakesText lines s next mid now a b → TakesFirst lines next from now b
+first_more lines s next from mid now a b x y = record {
   text = x.text ++ y.text;
   took = took_both from mid now x.text y.text x.took y.took;
-  none = All-append (λ c. c ≢ end) x.text y.text x.none y.none;
+  none = All-append (λ c. c ≢ end_of lines) x.text y.text x.none y.none;
   long = let size = length-append x.text y.text in let has = x.long in omega (arith, size, has);
   held = y.held x.text x.held;
+  on = y.on x.text x.on;
 }
 
 -- the input was read on
-pub first_later : (end : ℕ) (from mid now : Arriving) (a b : Record) → TakesFirst end from mid a → Took mid now [] → b ≡ a → TakesFirst end from now b
-first_later end from mid now a b first later same =
-    subst (λ r. TakesFirst end from now r) (sym same)
-    (first_more end from mid now a a first (record { text = []; took = later; none = λ k d less. absurd (omega (arith, less)); held = holds_none a }))
+later_on : (lines : Lines) (s : Stretch) (line : List ℕ) (mid now : Arriving) (r : Record) → Took mid now [] → IsOn lines (end_of lines) s line mid r → IsOn lines (end_of lines) s (line ++ []) now r
+later_on lines s line mid now r later on =
+    subst (λ xs. IsOn lines (end_of lines) s xs now r) (sym (append-nil line))
+    (record { long = on.long; is_in = on.is_in; whole = λ front is. goes_later (end_of lines) mid now later (on.whole front is) })
+
+pub first_later : (lines : Lines) (s : Stretch) (from mid now : Arriving) (a b : Record) → TakesFirst lines s from mid a → Took mid now [] → b ≡ a → TakesFirst lines s from now b
+first_later lines s from mid now a b first later same =
+    subst (λ r. TakesFirst lines s from now r) (sym same)
+    (first_more lines s s from mid now a a first
+    (record {
+      text = [];
+      took = later;
+      none = λ k d less. absurd (omega (arith, less));
+      held = holds_none a;
+      on = λ line on. later_on lines s line mid now a later on;
+    }))
 
 tail_is : (end : ℕ) (text tail : List ℕ) (now : Arriving) → 0 < length text → (tail ≡ end ∷ []) ⊎ ((tail ≡ []) × IsOver now)
     → (tail ≡ end ∷ []) ⊎ ((tail ≡ []) × (0 < length text) × IsOver now)
 tail_is end text tail now some (inl stops) = inl stops
 tail_is end text tail now some (inr last) = inr (last.0, some, last.1)
 
+-- it is not short
+long_came : (lines : Lines) (text : List ℕ) (r : Reading) → room_size ≤ length text + 1 → LineNamed lines text r.key → LineCame lines text r
+long_came lines text r long x = record {
+  value = value_in lines.form x.named.field;
+  key = x.named.named;
+  is = record { bare = x.bare; is_bare = x.is_bare; field = x.named.field; is_field = x.named.is_value; is_value = refl };
+  came = λ short. let few = short.short in absurd (omega (arith, few, long));
+  key_is = x.named.kept;
+}
+
 -- a line is its first bytes and the rest
-pub line_taken : (lines : Lines) (from mid now : Arriving) (a b : Record) → TakesFirst (end_of lines) from mid a → TakesRest (end_of lines) mid now a b → TakesLine lines from now b
-line_taken lines from mid now a b x y =
+pub line_taken : (lines : Lines) (s : Stretch) (from mid now : Arriving) (a b : Record) → TakesFirst lines s from mid a → TakesRest lines s mid now a b → TakesLine lines from now b
+line_taken lines s from mid now a b x y =
     let end = end_of lines in
     let text : List ℕ = x.text ++ y.text in
     let size : length text ≡ length x.text + length y.text = length-append x.text y.text in
     let long = x.long in
-    let not : length text + 1 < room_size → ⊥ = λ few. omega (arith, few, size, long) in
     let all : text ++ y.tail ≡ x.text ++ (y.text ++ y.tail) = append_assoc x.text y.text y.tail in
     record {
       text = text;
@@ -150,7 +217,7 @@ line_taken lines from mid now a b x y =
       took = subst (λ xs. Took from now xs) (sym all) (took_both from mid now x.text (y.text ++ y.tail) x.took y.took);
       none = All-append (λ c. c ≢ end) x.text y.text x.none y.none;
       is = tail_is end text y.tail now (omega (arith, size, long)) y.is;
-      came = λ few. absurd (not few);
+      came = long_came lines text b.reading (omega (arith, size, long)) (y.ends x.text x.on);
       held = subst (λ xs. Holds b xs) (sym all) (y.held x.text x.held);
     }
 
@@ -174,16 +241,14 @@ line_ended lines old last new from now p q r s t u passed quiet x closes =
         none = x.none;
         is = line_is (end_of lines) x.text x.tail rest now x.is (λ over. ahead_over now rest over known);
         answers =
-            λ few.
-            let came = x.came few in
             record {
-              value = came.value;
-              key = came.key;
-              is = came.is;
-              key_told = told_key last.current.reading.key entry came.key came.key_is closes.key;
+              value = x.came.value;
+              key = x.came.key;
+              is = x.came.is;
+              key_told = told_key last.current.reading.key entry x.came.key x.came.key_is closes.key;
               right =
                   λ short.
-                  subst (λ (t : Terms). IsFor t.rules t.most entry.key.is_lost came.value entry.answer) quiet.keeps (closes.right came.value (came.came short));
+                  subst (λ (t : Terms). IsFor t.rules t.most entry.key.is_lost x.came.value entry.answer) quiet.keeps (closes.right x.came.value (x.came.came short));
             };
         held = handed old.current last.current entry (x.text ++ x.tail) quiet.keeps x.held closes.held closes.may;
       },

@@ -10,6 +10,7 @@ pub mod Lines
 pub mod Readings
 pub mod Records
 pub mod Sized
+pub mod Stretches
 pub mod Texts
 pub mod Told
 pub mod Words

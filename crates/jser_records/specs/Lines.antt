@@ -10,6 +10,7 @@ use Rattle.jser_records.specs.Fields.{IsBare, IsValue}
 use Rattle.jser_records.specs.Held.{Holds, HoldsMore, Terms}
 use Rattle.jser_records.specs.Keys.{HasNoKey, IsKeyOf}
 use Rattle.jser_records.specs.Readings.{Came, IsFor, IsOfDigits, IsReady, Value, none, text_of}
+use Rattle.jser_records.specs.Stretches.{IsOn, LineNamed}
 use Rattle.jser_records.specs.Texts.{behind_mark, characters_in, is_null, mark_in}
 use Rattle.jser_records.specs.Told.{Entry, HandsOn, KeyTold}
 
@@ -34,7 +35,7 @@ pub record IsShort (lines : Lines) (text : List ℕ) : Type 0 where
   pub short : length text + 1 < room_size
   pub digits : IsOfDigits lines.form
 
--- its KEY is told, and its answer is right of its value, if it is short
+-- its KEY is told, however long it is; and its answer is right of its value, if it is short
 pub record AnswersLine (lines : Lines) (terms : Terms) (text : List ℕ) (entry : Entry) : Type 0 where
   pub value : Value
   pub key : Option (List ℕ)
@@ -50,7 +51,7 @@ pub record LineOf (lines : Lines) (terms : Terms) (bytes : List ℕ) (entry : En
   pub split : bytes ≡ (text ++ tail) ++ rest
   pub none : HasNone (end_of lines) text
   pub is : (tail ≡ end_of lines ∷ []) ⊎ ((tail ≡ []) × (0 < length text) × (rest ≡ []))
-  pub answers : length text + 1 < room_size → AnswersLine lines terms text entry
+  pub answers : AnswersLine lines terms text entry
   pub held : HandsOn terms entry (text ++ tail)
 
 -- ---- as it is read
@@ -72,32 +73,35 @@ pub record FieldCame (lines : Lines) (line : List ℕ) (old new : Reading) : Typ
   pub key_is : HasNoKey old.key → IsKeyOf new.key key
 
 -- bytes of a line were taken, without a line end
-pub record TakesText (end : ℕ) (from now : Arriving) (old new : Record) : Type 0 where
+pub record TakesText (lines : Lines) (s next : Stretch) (from now : Arriving) (old new : Record) : Type 0 where
   pub text : List ℕ
   pub took : Took from now text
-  pub none : HasNone end text
+  pub none : HasNone (end_of lines) text
   pub held : HoldsMore old new text
+  pub on : (line : List ℕ) → IsOn lines (end_of lines) s line from old → IsOn lines (end_of lines) next (line ++ text) now new
 
 -- the first ones of one that is not short
-pub record TakesFirst (end : ℕ) (from now : Arriving) (r : Record) : Type 0 where
+pub record TakesFirst (lines : Lines) (s : Stretch) (from now : Arriving) (r : Record) : Type 0 where
   pub text : List ℕ
   pub took : Took from now text
-  pub none : HasNone end text
+  pub none : HasNone (end_of lines) text
   pub long : room_size ≤ length text + 1
   pub held : Holds r text
+  pub on : IsOn lines (end_of lines) s text now r
 
 -- the last bytes of a line were taken, with its end; or the input ended
-pub record TakesRest (end : ℕ) (from now : Arriving) (old new : Record) : Type 0 where
+pub record TakesRest (lines : Lines) (s : Stretch) (from now : Arriving) (old new : Record) : Type 0 where
   pub text : List ℕ
   pub tail : List ℕ
   pub took : Took from now (text ++ tail)
-  pub none : HasNone end text
-  pub is : (tail ≡ end ∷ []) ⊎ ((tail ≡ []) × IsOver now)
+  pub none : HasNone (end_of lines) text
+  pub is : (tail ≡ end_of lines ∷ []) ⊎ ((tail ≡ []) × IsOver now)
   pub held : HoldsMore old new (text ++ tail)
+  pub ends : (line : List ℕ) → IsOn lines (end_of lines) s line from old → LineNamed lines (line ++ text) new.reading.key
 
-abbrev pub StretchTakes : (end : ℕ) → (from now : Arriving) → (old new : Record) → Option Stretch → Type 0
-StretchTakes end from now old new (Some next) = TakesText end from now old new
-StretchTakes end from now old new None = TakesRest end from now old new
+abbrev pub StretchTakes : (lines : Lines) → Stretch → (from now : Arriving) → (old new : Record) → Option Stretch → Type 0
+StretchTakes lines s from now old new (Some next) = TakesText lines s next from now old new
+StretchTakes lines s from now old new None = TakesRest lines s from now old new
 
 -- a line was taken
 pub record TakesLine (lines : Lines) (from now : Arriving) (r : Record) : Type 0 where
@@ -106,5 +110,5 @@ pub record TakesLine (lines : Lines) (from now : Arriving) (r : Record) : Type 0
   pub took : Took from now (text ++ tail)
   pub none : HasNone (end_of lines) text
   pub is : (tail ≡ end_of lines ∷ []) ⊎ ((tail ≡ []) × (0 < length text) × IsOver now)
-  pub came : length text + 1 < room_size → LineCame lines text r.reading
+  pub came : LineCame lines text r.reading
   pub held : Holds r (text ++ tail)

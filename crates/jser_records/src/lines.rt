@@ -6,11 +6,12 @@ ghost use Rattle.jser_inputs.specs.declared.Form.{Form as ToldForm};
 ghost use Rattle.jser_records.specs.Arriving.{HasNone, IsBefore, IsOver, room_size};
 ghost use Rattle.jser_records.specs.Fields.{IsBare};
 ghost use Rattle.jser_records.specs.Held.{Holds, HoldsMore, HoldsSame, Keeps};
-ghost use Rattle.jser_records.specs.Keys.{HasNoKey, IsKeyOf, longer_key};
+ghost use Rattle.jser_records.specs.Keys.{HasNoKey, IsKeyOf, longer_key, most_key};
 ghost use Rattle.jser_records.specs.Lines.{FieldCame, LineCame, StretchTakes, TakesFirst, TakesLine, end_of};
 ghost use Rattle.jser_records.specs.Readings.{Came, HasSpelled, IsOfDigits, IsReady};
 ghost use Rattle.jser_records.specs.Readings.{Value as ToldValue};
 ghost use Rattle.jser_records.specs.Records.{RecordsGoTo, RecordsTo};
+ghost use Rattle.jser_records.specs.Stretches.{InStretch, PieceEnds, value_stretch};
 ghost use Rattle.jser_records.specs.Texts.{behind_mark, characters_in, is_null, mark_in, mark_size};
 ghost use Rattle.jser_records.specs.declared.layout.Shape.TheVariants as Shape;
 
@@ -163,6 +164,7 @@ fn without_return(lines: Lines, line: &[u8]) -> &[u8]
 /// Takes the first bytes of a line, all of its KEY before the value among them.
 fn take_front(current: &mut Record<'_>, lines: Lines, line: &[u8]) -> Stretch
     ensures came { FieldCame lines line.now current.old.reading current.new.reading }
+    ensures on { most_key < length line.now → HasNoKey current.old.reading.key → InStretch result lines.field line.now current.new.reading.key }
     ensures held { HoldsSame current.old current.new }
     ensures keeps { Keeps current.old current.new }
 {
@@ -181,7 +183,9 @@ fn take_front(current: &mut Record<'_>, lines: Lines, line: &[u8]) -> Stretch
 }
 
 /// In the value.
-fn value_stretch(lines: Lines) -> Stretch {
+fn value_stretch(lines: Lines) -> Stretch
+    ensures { result ≡ value_stretch lines.field }
+{
     match lines.field {
         None => Stretch::LastValue,
         Some(_) => Stretch::Value,
@@ -304,7 +308,7 @@ fn read_long_line<R: Source, W: Sink, E: Sink>(
 fn first_stretch<R: Source>(inbox: &mut Inbox<R>, current: &mut Record<'_>, lines: Lines) -> Stretch
     requires none { HasNone (end_of lines) inbox.old.waiting }
     requires long { length inbox.old.waiting ≡ room_size }
-    ensures takes { TakesFirst (end_of lines) inbox.old inbox.new current.new }
+    ensures takes { TakesFirst lines result inbox.old inbox.new current.new }
     ensures sought { inbox.new.sought ≡ inbox.old.sought }
     ensures keeps { Keeps current.old current.new }
 {
@@ -322,26 +326,26 @@ fn next_stretch<R: Source>(
     stretch: Stretch,
 ) -> Option<Stretch>
     requires sought { inbox.old.sought ≡ end_of lines }
-    ensures takes { StretchTakes (end_of lines) inbox.old inbox.new current.old current.new result }
+    ensures takes { StretchTakes lines stretch inbox.old inbox.new current.old current.new result }
     ensures sought { inbox.new.sought ≡ inbox.old.sought }
     ensures keeps { Keeps current.old current.new }
 {
     match inbox.find() {
         Some(count) => {
-            take_piece(current, lines, stretch, inbox.front(count), true);
+            take_last_piece(current, lines, stretch, inbox.front(count));
             current.hold(line_end(lines));
             inbox.pass(count + 1);
             None
         }
         None if inbox.is_over() => {
             let count = inbox.waiting().len();
-            take_piece(current, lines, stretch, inbox.front(count), true);
+            take_last_piece(current, lines, stretch, inbox.front(count));
             inbox.pass(count);
             None
         }
         None => {
             let count = whole_count(inbox.waiting());
-            let next = take_piece(current, lines, stretch, inbox.front(count), false);
+            let next = take_piece(current, lines, stretch, inbox.front(count));
             inbox.pass(count);
             Some(next)
         }
@@ -352,6 +356,7 @@ fn next_stretch<R: Source>(
 fn whole_count(waiting: &[u8]) -> usize
     ensures within { result ≤ length waiting.now }
     ensures most { length waiting.now ≤ result + 1 }
+    ensures clean { length waiting.now ≤ result → (front : List ℕ) → waiting.now ≡ front ++ (0x0D ∷ []) → ⊥ }
 {
     match waiting {
         [front @ .., b'\r'] | [front @ .., b'\\'] => front.len(),
@@ -361,6 +366,7 @@ fn whole_count(waiting: &[u8]) -> usize
 
 /// Begins a long line by its first bytes.
 fn begin_line(current: &mut Record<'_>, lines: Lines, front: &[u8]) -> Stretch
+    ensures on { most_key < length front.now → InStretch result lines.field front.now current.new.reading.key }
     ensures keeps { Keeps current.old current.new }
     ensures held { Holds current.new front.now }
 {
@@ -369,29 +375,33 @@ fn begin_line(current: &mut Record<'_>, lines: Lines, front: &[u8]) -> Stretch
     take_front(current, lines, front)
 }
 
-/// Takes one more piece of a long line, or the last one.
-fn take_piece(
-    current: &mut Record<'_>,
-    lines: Lines,
-    stretch: Stretch,
-    piece: &[u8],
-    is_last: bool,
-) -> Stretch
+/// Takes one more piece of a long line.
+fn take_piece(current: &mut Record<'_>, lines: Lines, stretch: Stretch, piece: &[u8]) -> Stretch
+    ensures on { (line : List ℕ) → most_key < length line → InStretch stretch lines.field line current.old.reading.key
+        → InStretch result lines.field (line ++ piece.now) current.new.reading.key }
     ensures keeps { Keeps current.old current.new }
     ensures held { HoldsMore current.old current.new piece.now }
 {
     current.hold(piece);
-    let text = if is_last {
-        without_return(lines, piece)
-    } else {
-        piece
-    };
-    take_text(current, lines.form, stretch, text)
+    take_text(current, lines.form, stretch, piece)
+}
+
+/// Takes the last piece of a long line, without its end.
+fn take_last_piece(current: &mut Record<'_>, lines: Lines, stretch: Stretch, piece: &[u8])
+    ensures ends { (line : List ℕ) → most_key < length line → InStretch stretch lines.field line current.old.reading.key
+        → PieceEnds lines line piece.now current.new.reading.key }
+    ensures keeps { Keeps current.old current.new }
+    ensures held { HoldsMore current.old current.new piece.now }
+{
+    current.hold(piece);
+    let _ = take_text(current, lines.form, stretch, without_return(lines, piece));
 }
 
 /// Takes the text of a piece.
-#[tactic(auto, using(crate::proofs::HeldLemmas::holds_keyed, crate::proofs::HeldLemmas::keeps_keyed, crate::proofs::HeldLemmas::holds_refused, crate::proofs::HeldLemmas::keeps_rules))]
+#[tactic(auto, using(crate::proofs::HeldLemmas::holds_keyed, crate::proofs::HeldLemmas::keeps_keyed))]
 fn take_text(current: &mut Record<'_>, form: Form, stretch: Stretch, text: &[u8]) -> Stretch
+    ensures on { (asked : Option ℕ) (line : List ℕ) → most_key < length line → InStretch stretch asked line current.old.reading.key
+        → InStretch result asked (line ++ text.now) current.new.reading.key }
     ensures keeps { Keeps current.old current.new }
     ensures held { HoldsSame current.old current.new }
 {
@@ -401,26 +411,47 @@ fn take_text(current: &mut Record<'_>, form: Form, stretch: Stretch, text: &[u8]
             Stretch::Behind
         }
         Stretch::LastValue => {
-            // One more field: so many bytes before the value are no KEY.
-            if memchr(b'\t', text).is_some() {
-                current.reading.lose_key();
-            } else {
-                current.spell(form, text);
-            }
+            take_last_value(current, form, text);
             Stretch::LastValue
         }
-        Stretch::Value => match memchr(b'\t', text) {
-            Some(at) => {
-                let (value, behind) = text.split_at(at);
-                current.spell(form, value);
-                let is_first = !current.reading.key.is_there();
-                take_behind(current, behind, is_first);
-                Stretch::Behind
-            }
-            None => {
-                current.spell(form, text);
-                Stretch::Value
-            }
-        },
+        Stretch::Value => take_value(current, form, text),
+    }
+}
+
+/// Takes the text of a piece, in the value, which is the last field.
+#[tactic(auto, using(crate::proofs::HeldLemmas::holds_refused, crate::proofs::HeldLemmas::keeps_rules))]
+fn take_last_value(current: &mut Record<'_>, form: Form, text: &[u8])
+    ensures on { (asked : Option ℕ) (line : List ℕ) → most_key < length line → InStretch Stretch.LastValue asked line current.old.reading.key
+        → InStretch Stretch.LastValue asked (line ++ text.now) current.new.reading.key }
+    ensures keeps { Keeps current.old current.new }
+    ensures held { HoldsSame current.old current.new }
+{
+    // One more field: so many bytes before the value are no KEY.
+    if memchr(b'\t', text).is_some() {
+        current.reading.lose_key();
+    } else {
+        current.spell(form, text);
+    }
+}
+
+/// Takes the text of a piece, in the value, which another field may follow.
+fn take_value(current: &mut Record<'_>, form: Form, text: &[u8]) -> Stretch
+    ensures on { (asked : Option ℕ) (line : List ℕ) → InStretch Stretch.Value asked line current.old.reading.key
+        → InStretch result asked (line ++ text.now) current.new.reading.key }
+    ensures keeps { Keeps current.old current.new }
+    ensures held { HoldsSame current.old current.new }
+{
+    match memchr(b'\t', text) {
+        Some(at) => {
+            let (value, behind) = text.split_at(at);
+            current.spell(form, value);
+            let is_first = !current.reading.key.is_there();
+            take_behind(current, behind, is_first);
+            Stretch::Behind
+        }
+        None => {
+            current.spell(form, text);
+            Stretch::Value
+        }
     }
 }

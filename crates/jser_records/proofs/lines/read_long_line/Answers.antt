@@ -1,6 +1,5 @@
 use Rattle.std.proofs.Common.{refl, ◌∙◌}
 use Rattle.jser_records.specs.declared.layout.Shape.TheVariants as shape
-use Rattle.jser_records.specs.Lines.{end_of}
 use Rattle.jser_records.specs.Sized.{at_line}
 use Rattle.jser_records.proofs.LineLemmas.{first_later, first_more, line_ended, line_taken}
 use Rattle.jser_records.proofs.RecordLemmas.{front_quiet}
@@ -22,7 +21,7 @@ returns-in-None-clause-records g c =
     let last = record mid { current = c.next_stretch.new.current } in
     line_ended c.args.lines was last c.close.new.self c.args.inbox.now c.next_stretch.new.inbox _ _ _ _ _ _ c.close.result
     (quiet_then_changed was mid last _ _ _ _ c.stretches.invariant.quiet refl c.next_stretch.ensures.keeps)
-    (line_taken c.args.lines c.args.inbox.now c.stretches.inbox c.next_stretch.new.inbox mid.current c.next_stretch.new.current c.stretches.invariant.takes c.in-None.ensures.takes) c.close.ensures.closes
+    (line_taken c.args.lines c.stretches.stretch c.args.inbox.now c.stretches.inbox c.next_stretch.new.inbox mid.current c.next_stretch.new.current c.stretches.invariant.takes c.in-None.ensures.takes) c.close.ensures.closes
 
 pub returns-in-Err-clause-records : goal.returns-in-Err-clause-records
 returns-in-Err-clause-records g c =
@@ -38,14 +37,14 @@ stretches-preserved g c =
     let mid = c.stretches.clerk in
     let last = record mid { current = c.next_stretch.new.current } in
     let from = c.args.inbox.now in
-    let end = end_of c.args.lines in
+    let lines = c.args.lines in
     record {
       quiet =
           quiet_both was last c.read_more.new.clerk _ _ _ _ _ _ (quiet_then_changed was mid last _ _ _ _ c.stretches.invariant.quiet refl c.next_stretch.ensures.keeps)
           c.read_more.ensures.quiet;
       takes =
-          first_later end from c.next_stretch.new.inbox c.read_more.new.inbox c.next_stretch.new.current c.read_more.new.clerk.current
-          (first_more end from c.stretches.inbox c.next_stretch.new.inbox mid.current c.next_stretch.new.current c.stretches.invariant.takes c.in-Some.ensures.takes)
+          first_later lines c.in-Some.next from c.next_stretch.new.inbox c.read_more.new.inbox c.next_stretch.new.current c.read_more.new.clerk.current
+          (first_more lines c.stretches.stretch c.in-Some.next from c.stretches.inbox c.next_stretch.new.inbox mid.current c.next_stretch.new.current c.stretches.invariant.takes c.in-Some.ensures.takes)
           (took_more c.next_stretch.new.inbox c.read_more.new.inbox c.in-Ok.ensures.comes) c.read_more.ensures.current;
       sought = c.in-Ok.ensures.comes.sought ∙ c.next_stretch.ensures.sought ∙ c.stretches.invariant.sought;
     }
