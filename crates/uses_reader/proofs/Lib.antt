@@ -2,3 +2,4 @@ pub mod AskingLemmas
 pub mod CutLemmas
 pub mod TakingLemmas
 pub mod PlaceLemmas
+pub mod ShowingLemmas

@@ -6,6 +6,7 @@
 pub mod asking;
 pub mod cuts;
 pub mod places;
+pub mod showing;
 pub mod taking;
 #[cfg(test)]
 mod tests;

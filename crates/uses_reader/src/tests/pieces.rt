@@ -1,8 +1,9 @@
 //! Items, states and cut streams, piece by piece.
 
 use crate::tests::asserted::{holds, same};
+use crate::showing::{NoMore, show_at_most};
 use crate::tests::{answer_of, finish, next, skip, totals, with_reader};
-use jser_reader::{Item, OpenGate, Reader, Reason, Refusal, Step, Stop, Whole};
+use jser_reader::{FeedFault, Item, OpenGate, Reader, Reason, Refusal, Step, Stop, Whole};
 use std::alloc::Global;
 use std::process::Abort;
 use std::test::Fail;
@@ -165,4 +166,30 @@ fn skips_raw_values(rt: &impl Abort, reader: &mut Reader<OpenGate>) {
 #[test]
 fn raw_values(rt: HostRuntime) {
     with_reader(&rt, |rt, reader| skips_raw_values(rt, reader));
+}
+
+/// A stream of six items: the header, a string as a tag, a length and bytes, and a reference to it as a tag and a handle.
+const SIX_ITEMS: [u8; 13] = [
+    0xAC, 0xED, 0x00, 0x05, 0x74, 0x00, 0x01, 0x61, 0x71, 0x00, 0x7E, 0x00, 0x00,
+];
+
+/// Shows the items of a piece, and answers whether there were at most so many.
+fn shows(reader: &mut Reader<OpenGate>, piece: &[u8], most: u64) -> Result<(), FeedFault<NoMore>> {
+    show_at_most(reader, piece, most)
+}
+
+/// Six items are shown of six, and of a piece of one byte at most one; a visitor that takes five stops.
+fn shows_six_items(rt: &impl Abort, reader: &mut Reader<OpenGate>) {
+    same!(rt; shows(reader, &SIX_ITEMS, 6), Ok(()));
+    reader.restart();
+    for byte in SIX_ITEMS.chunks(1) {
+        same!(rt; shows(reader, byte, 1), Ok(()), format_args!("{byte:?}"));
+    }
+    reader.restart();
+    same!(rt; shows(reader, &SIX_ITEMS, 5), Err(FeedFault::Visitor(NoMore)));
+}
+
+#[test]
+fn six_items(rt: HostRuntime) {
+    with_reader(&rt, |rt, reader| shows_six_items(rt, reader));
 }
