@@ -3,53 +3,64 @@
 #![tactic(auto)]
 
 use anyhow::Result;
-use serialstream::{Item, OpenGate, Reader, Step, TC_CLASSDESC};
-use std::alloc::{AllocError, Global};
+use serialstream::{FeedFault, Item, OpenGate, Reader, TC_CLASSDESC, Visit};
 use std::io::Read;
 use std::str;
 
-/// The name that is being read, if one is.
+/// Prints names, and keeps the one that is being read.
 #[derive(Drop)]
-struct Naming {
+struct Names<'r> {
+    rt: &'r HostRuntime,
     is_name: bool,
     name: Vec<u8>,
     left: u64,
 }
 
-impl Naming {
-    fn new(alloc: Global) -> Naming {
-        Naming {
+impl<'r> Names<'r> {
+    fn new(rt: &'r HostRuntime) -> Names<'r> {
+        Names {
+            rt,
             is_name: false,
-            name: Vec::new(alloc),
+            name: Vec::new(rt.alloc()),
             left: 0,
         }
     }
 
-    /// Takes the next item of the stream, and returns whether a name ends with it.
-    fn take(&mut self, item: Item<'_>) -> Result<bool, AllocError> {
+    /// Keeps bytes of the name, after which so many are left, and prints it where none is.
+    fn add(&mut self, part: &[u8], left: u64) -> Result<()> {
+        self.name.extend_from_slice(part)?;
+        self.left = left;
+        if left == 0 {
+            print_name(self.rt, &self.name)?;
+        }
+        Ok(())
+    }
+}
+
+impl Visit for Names<'_> {
+    type Fault = anyhow::Error;
+
+    fn item(&mut self, item: Item<'_>) -> Result<()> {
         match item {
             Item::Tag(tag) => self.is_name = tag == TC_CLASSDESC,
             Item::InterfaceCount(_) => self.is_name = true,
             Item::TypeCode(_) => self.is_name = false,
             Item::TextLength(len) if self.is_name => {
                 self.name.clear();
-                self.left = len;
-                return Ok(len == 0);
+                self.add(&[], len)?;
             }
             Item::TextPart(part) if self.is_name => {
-                self.name.extend_from_slice(part)?;
-                self.left = self.left.saturating_sub(part.len() as u64);
-                return Ok(self.left == 0);
+                self.add(part, self.left.saturating_sub(part.len() as u64))?;
             }
             _ => {}
         }
-        Ok(false)
+        Ok(())
     }
 }
 
 fn main(rt: HostRuntime) -> Result<()> {
     let mut reader = Reader::new(rt.alloc(), OpenGate);
-    let mut naming = Naming::new(rt.alloc());
+    let mut names = Names::new(&rt);
     let mut input = rt.stdin();
     let mut buffer = [0; 4096];
     for _ in 0..u64::MAX {
@@ -57,31 +68,14 @@ fn main(rt: HostRuntime) -> Result<()> {
         if count == 0 {
             break;
         }
-        print_names(&rt, &mut reader, &mut naming, &buffer[..count])?;
+        match reader.feed(&buffer[..count], &mut names) {
+            Ok(()) => {}
+            Err(FeedFault::Reader(stop)) => return Err(stop.into()),
+            Err(FeedFault::Visitor(fault)) => return Err(fault),
+        }
     }
     let totals = reader.finish()?;
     println!(rt; "{} bytes", totals.bytes)?;
-    Ok(())
-}
-
-/// Prints the names that end in this piece.
-fn print_names(
-    rt: &HostRuntime,
-    reader: &mut Reader<OpenGate>,
-    naming: &mut Naming,
-    piece: &[u8],
-) -> Result<()> {
-    let mut done = 0;
-    'items: while done < piece.len() {
-        let (_, rest) = piece.split_at(done);
-        let Step::Item { item, used } = reader.next(rest)? else {
-            break;
-        };
-        if naming.take(item)? {
-            print_name(rt, &naming.name)?;
-        }
-        done += used;
-    }
     Ok(())
 }
 

@@ -1,6 +1,6 @@
 //! Java object serialization streams, checked without a Java machine: one crate to import.
 //!
-//! `check_bytes`, `check_reader` and `Checker` say yes or no of a whole stream under a `Filter`. `Reader` lends the fields of
+//! `check_bytes`, `check_reader` and `Checker` say yes or no of a whole stream under a `Filter`. `Reader` lends the tokens of
 //! a stream that comes in pieces, under any `Gate`.
 #![tactic(auto)]
 
@@ -15,6 +15,6 @@ pub use jser_grammar::wire::{
 };
 pub use jser_prim::{Failed, FromRead, Source};
 pub use jser_reader::{
-    Answer, Gate, Item, Limits as GateLimits, OpenGate, Place, Reader, Reason, Refusal, Step, Stop,
-    Totals, Whole,
+    Answer, FeedFault, Gate, Item, Limits as GateLimits, OpenGate, Place, Reader, Reason, Refusal,
+    Step, Stop, Totals, Visit, Whole,
 };

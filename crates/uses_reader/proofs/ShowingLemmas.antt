@@ -1,5 +1,5 @@
 -- What a visitor was shown, and what a reader that has stopped shows.
-use Rattle.std.proofs.Common.{◌≡◌, ℕ, suc, ◌+◌, ◌≤◌, List, Result, Ok, Err, arith, ap, sym, ◌∙◌, subst}
+use Rattle.std.proofs.Common.{◌≡◌, ℕ, suc, ◌+◌, List, Result, Ok, Err, arith, ◌∙◌, subst}
 use Rattle.jser_verdict.specs.Gates.{Gate}
 use Rattle.jser_reader.specs.declared.FeedFault.{FeedFault}
 use Rattle.jser_reader.specs.declared.FeedFault.TheVariants as feed_fault

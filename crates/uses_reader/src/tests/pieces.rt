@@ -1,7 +1,7 @@
 //! Items, states and cut streams, piece by piece.
 
-use crate::tests::asserted::{holds, same};
 use crate::showing::{NoMore, show_at_most};
+use crate::tests::asserted::{holds, same};
 use crate::tests::{answer_of, finish, next, skip, totals, with_reader};
 use jser_reader::{FeedFault, Item, OpenGate, Reader, Reason, Refusal, Step, Stop, Whole};
 use std::alloc::Global;
