@@ -17,13 +17,13 @@ use Rattle.jser_records.specs.declared.lines.Stretch.{Stretch}
 use Rattle.jser_records.specs.declared.parts.Parts.{Parts}
 use Rattle.jser_records.specs.declared.reading.Reading.{Reading}
 use Rattle.jser_records.specs.Arriving.{Arriving, HasNone, IsBefore, IsOver, Took, room_size}
-use Rattle.jser_records.specs.Fields.{AreParts, IsValue, key_of, part_of}
+use Rattle.jser_records.specs.Fields.{AreParts, key_of, part_of}
 use Rattle.jser_records.specs.Held.{Holds, HoldsMore, Terms}
-use Rattle.jser_records.specs.Keys.{HasNoKey, IsKeyOf, most_key}
-use Rattle.jser_records.specs.Lines.{FieldCame, LineCame, TakesFirst, TakesLine, TakesRest, TakesText, end_of, value_in}
-use Rattle.jser_records.specs.Readings.{AddsKey, Came, HasCome, HasSpelled, IsFor, IsOfDigits, IsReady, Value, none, plain, text_of, cut_at, unknown}
+use Rattle.jser_records.specs.Keys.{HasNoKey, IsKeyOf}
+use Rattle.jser_records.specs.Lines.{FieldCame, LineCame, TakesFirst, TakesLine, TakesRest, TakesText, end_of}
+use Rattle.jser_records.specs.Readings.{AddsKey, Came, HasCome, HasSpelled, IsCounted, IsFor, IsOfDigits, IsReady, Value, none, plain, text_of, cut_at, unknown, value_in}
 use Rattle.jser_records.specs.Records.{RecordsGo}
-use Rattle.jser_records.specs.Stretches.{GoesOn, InStretch, IsOn, LineNamed, PieceEnds}
+use Rattle.jser_records.specs.Stretches.{GoesOn, InStretch, IsApart, IsOn, LineNamed, PieceEnds}
 use Rattle.jser_records.specs.Texts.{behind_mark, characters_in, is_null, mark_in}
 use Rattle.jser_records.specs.Sized.{at_line}
 use Rattle.jser_records.specs.Told.{Closes, Entry, Quiet, ended}
@@ -32,7 +32,7 @@ use Rattle.jser_records.proofs.HeldLemmas.{holds_both, holds_none}
 use Rattle.jser_records.proofs.KeyLemmas.{told_key}
 use Rattle.jser_records.proofs.RecordLemmas.{handed, part_said}
 use Rattle.jser_records.proofs.RoomLemmas.{ahead_over, all_passed, took_both, took_first}
-use Rattle.jser_records.proofs.StretchLemmas.{goes_later, goes_on, line_named, none_ends, some_before, some_left}
+use Rattle.jser_records.proofs.StretchLemmas.{apart_all, apart_on, apart_piece, counted_bare, goes_later, goes_on, line_named, none_ends, piece_held, some_before, some_left}
 
 -- the bytes before the first line end, and that
 pub with_end : (end : ℕ) (waiting : List ℕ) (count : ℕ) → IsBefore end waiting count → take (count + 1) waiting ≡ take count waiting ++ (end ∷ [])
@@ -60,10 +60,11 @@ whole_line lines old new count r b is came held = record {
 
 -- the last bytes came: the line is told its KEY
 pub rest_ended : (lines : Lines) (s : Stretch) (old new : Arriving) (count : ℕ) (was mid last : Record) → IsBefore (end_of lines) old.waiting count
-    → new ≡ record old { waiting = drop (count + 1) old.waiting } → HoldsMore was mid (take count old.waiting) → HoldsMore mid last (end_of lines ∷ []) → last.reading.key ≡ mid.reading.key
-    → ((line : List ℕ) → most_key < length line → InStretch s lines.field line was.reading.key → PieceEnds lines line (take count old.waiting) mid.reading.key)
+    → new ≡ record old { waiting = drop (count + 1) old.waiting } → HoldsMore was mid (take count old.waiting) → HoldsMore mid last (end_of lines ∷ [])
+    → (last.reading ≡ mid.reading) ⊎ (last.reading ≡ record mid.reading { answer = Some (answer.Checked found.OutOfMemory) })
+    → ((line : List ℕ) → room_size ≤ length line + 1 → IsApart line (take count old.waiting) → InStretch s lines.form lines.field line was.reading → PieceEnds lines line (take count old.waiting) mid.reading)
     → TakesRest lines s old new was last
-rest_ended lines s old new count was mid last b is first more same ends = record {
+rest_ended lines s old new count was mid last b is first more kept ends = record {
   text = take count old.waiting;
   tail = end_of lines ∷ [];
   took = took_ended (end_of lines) old new count b is;
@@ -72,7 +73,8 @@ rest_ended lines s old new count was mid last b is first more same ends = record
   held = holds_both was mid last (take count old.waiting) (end_of lines ∷ []) first more;
   ends =
       λ line on.
-      line_named lines line (take count old.waiting) last.reading.key (subst (λ k. PieceEnds lines line (take count old.waiting) k) (sym same) (ends line on.long on.is_in))
+      line_named lines line (take count old.waiting) last.reading
+      (piece_held lines line (take count old.waiting) mid.reading last.reading kept (ends line on.long (apart_piece line old.waiting count on.apart) on.is_in))
       (λ front is none. some_before (end_of lines) old.waiting count b (on.whole front is) none);
 }
 
@@ -84,11 +86,17 @@ none_first end xs n clean = λ k d inside same.
 left_waiting : (old new : Arriving) (count : ℕ) → new ≡ record old { waiting = drop count old.waiting } → new.waiting ≡ drop count old.waiting
 left_waiting old new count is = ap (λ (a : Arriving). a.waiting) is
 
+-- what is left of the bytes that wait belongs together with what comes
+pub record LeavesLast (waiting : List ℕ) (count : ℕ) : Type 0 where
+  pub clean : length waiting ≤ count → (front : List ℕ) → waiting ≡ front ++ (0x0D ∷ []) → ⊥
+  pub marked : length waiting ≤ count → (front : List ℕ) → waiting ≡ front ++ (0x5C ∷ []) → ⊥
+  pub left : count < length waiting → (drop count waiting ≡ 0x0D ∷ []) ⊎ (drop count waiting ≡ 0x5C ∷ [])
+
 pub some_taken : (lines : Lines) (s next : Stretch) (old new : Arriving) (count : ℕ) (was last : Record) → HasNone (end_of lines) old.waiting → new ≡ record old { waiting = drop count old.waiting }
-    → (length old.waiting ≤ count → (front : List ℕ) → old.waiting ≡ front ++ (0x0D ∷ []) → ⊥) → HoldsMore was last (take count old.waiting)
-    → ((line : List ℕ) → most_key < length line → InStretch s lines.field line was.reading.key → InStretch next lines.field (line ++ take count old.waiting) last.reading.key)
-    → TakesText lines s next old new was last
-some_taken lines s next old new count was last clean is whole held goes = record {
+    → LeavesLast old.waiting count → HoldsMore was last (take count old.waiting)
+    → ((line : List ℕ) → room_size ≤ length line + 1 → IsApart line (take count old.waiting) → InStretch s lines.form lines.field line was.reading
+    → InStretch next lines.form lines.field (line ++ take count old.waiting) last.reading) → TakesText lines s next old new was last
+some_taken lines s next old new count was last clean is leaves held goes = record {
   text = take count old.waiting;
   took = took_first old new count is;
   none = none_first (end_of lines) old.waiting count clean;
@@ -97,20 +105,21 @@ some_taken lines s next old new count was last clean is whole held goes = record
       λ line on.
       record {
         long = let size = length-append line (take count old.waiting) in let has = on.long in omega (arith, size, has);
-        is_in = goes line on.long on.is_in;
+        is_in = goes line on.long (apart_piece line old.waiting count on.apart) on.is_in;
         whole =
-            λ front is_front.
-            subst (λ xs. GoesOn (end_of lines) xs) (sym (left_waiting old new count is)) (goes_on (end_of lines) line old.waiting front count clean whole on.whole is_front);
+            λ front ends.
+            subst (λ xs. GoesOn (end_of lines) xs) (sym (left_waiting old new count is)) (goes_on (end_of lines) line old.waiting front count clean leaves.clean on.whole ends);
+        apart =
+            λ front ends. subst (λ xs. GoesOn 0x6E xs) (sym (left_waiting old new count is)) (apart_on line old.waiting front count leaves.marked leaves.left on.apart ends);
       };
 }
 
 pub first_taken : (lines : Lines) (s : Stretch) (old new : Arriving) (count : ℕ) (r : Record) → HasNone (end_of lines) old.waiting → length old.waiting ≡ room_size → length old.waiting ≤ count + 1
-    → (length old.waiting ≤ count → (front : List ℕ) → old.waiting ≡ front ++ (0x0D ∷ []) → ⊥) → new ≡ record old { waiting = drop count old.waiting } → Holds r (take count old.waiting)
-    → (most_key < length (take count old.waiting) → InStretch s lines.field (take count old.waiting) r.reading.key) → TakesFirst lines s old new r
-first_taken lines s old new count r clean long most whole is held named =
+    → LeavesLast old.waiting count → new ≡ record old { waiting = drop count old.waiting } → Holds r (take count old.waiting)
+    → (room_size ≤ length (take count old.waiting) + 1 → InStretch s lines.form lines.field (take count old.waiting) r.reading) → TakesFirst lines s old new r
+first_taken lines s old new count r clean long most leaves is held named =
     let size : length (take count old.waiting) ≡ min count (length old.waiting) = length-take count old.waiting in
     let left : room_size ≤ length (take count old.waiting) + 1 = omega (arith, size, long, most) in
-    let many : most_key < length (take count old.waiting) = omega (arith, left) in
     record {
       text = take count old.waiting;
       took = took_first old new count is;
@@ -119,12 +128,16 @@ first_taken lines s old new count r clean long most whole is held named =
       held = held;
       on =
           record {
-            long = many;
-            is_in = named many;
+            long = left;
+            is_in = named left;
             whole =
-                λ front is_front.
+                λ front ends.
                 subst (λ xs. GoesOn (end_of lines) xs) (sym (left_waiting old new count is))
-                (goes_on (end_of lines) [] old.waiting front count clean whole (λ f none. absurd (none_ends 0x0D f none)) is_front);
+                (goes_on (end_of lines) [] old.waiting front count clean leaves.clean (λ f none. absurd (none_ends 0x0D f none)) ends);
+            apart =
+                λ front ends.
+                subst (λ xs. GoesOn 0x6E xs) (sym (left_waiting old new count is))
+                (apart_on [] old.waiting front count leaves.marked leaves.left (λ f none. absurd (none_ends 0x5C f none)) ends);
           };
     }
 
@@ -133,7 +146,8 @@ all_taken old new count all is = subst (λ xs. Took old new xs) (take_all count 
 
 pub rest_last : (lines : Lines) (s : Stretch) (old new : Arriving) (count : ℕ) (was last : Record) → HasNone (end_of lines) old.waiting → length old.waiting ≤ count → IsAtEnd old.to_come
     → new ≡ record old { waiting = drop count old.waiting } → HoldsMore was last old.waiting
-    → ((line : List ℕ) → most_key < length line → InStretch s lines.field line was.reading.key → PieceEnds lines line old.waiting last.reading.key) → TakesRest lines s old new was last
+    → ((line : List ℕ) → room_size ≤ length line + 1 → IsApart line old.waiting → InStretch s lines.form lines.field line was.reading → PieceEnds lines line old.waiting last.reading)
+    → TakesRest lines s old new was last
 rest_last lines s old new count was last clean all ends is held named = record {
   text = old.waiting;
   tail = [];
@@ -143,7 +157,7 @@ rest_last lines s old new count was last clean all ends is held named = record {
   held = subst (λ xs. HoldsMore was last xs) (sym (append-nil old.waiting)) held;
   ends =
       λ line on.
-      line_named lines line old.waiting last.reading.key (named line on.long on.is_in)
+      line_named lines line old.waiting last.reading (named line on.long (apart_all line old.waiting on.apart) on.is_in)
       (λ front is_front none. some_left (end_of lines) old.waiting (on.whole front is_front) none);
 }
 
@@ -174,7 +188,12 @@ first_more lines s next from mid now a b x y = record {
 later_on : (lines : Lines) (s : Stretch) (line : List ℕ) (mid now : Arriving) (r : Record) → Took mid now [] → IsOn lines (end_of lines) s line mid r → IsOn lines (end_of lines) s (line ++ []) now r
 later_on lines s line mid now r later on =
     subst (λ xs. IsOn lines (end_of lines) s xs now r) (sym (append-nil line))
-    (record { long = on.long; is_in = on.is_in; whole = λ front is. goes_later (end_of lines) mid now later (on.whole front is) })
+    (record {
+      long = on.long;
+      is_in = on.is_in;
+      whole = λ front ends. goes_later (end_of lines) mid now later (on.whole front ends);
+      apart = λ front ends. goes_later 0x6E mid now later (on.apart front ends);
+    })
 
 pub first_later : (lines : Lines) (s : Stretch) (from mid now : Arriving) (a b : Record) → TakesFirst lines s from mid a → Took mid now [] → b ≡ a → TakesFirst lines s from now b
 first_later lines s from mid now a b first later same =
@@ -193,13 +212,12 @@ tail_is : (end : ℕ) (text tail : List ℕ) (now : Arriving) → 0 < length tex
 tail_is end text tail now some (inl stops) = inl stops
 tail_is end text tail now some (inr last) = inr (last.0, some, last.1)
 
--- it is not short
-long_came : (lines : Lines) (text : List ℕ) (r : Reading) → room_size ≤ length text + 1 → LineNamed lines text r.key → LineCame lines text r
-long_came lines text r long x = record {
+named_came : (lines : Lines) (text : List ℕ) (r : Reading) → LineNamed lines text r → LineCame lines text r
+named_came lines text r x = record {
   value = value_in lines.form x.named.field;
   key = x.named.named;
   is = record { bare = x.bare; is_bare = x.is_bare; field = x.named.field; is_field = x.named.is_value; is_value = refl };
-  came = λ short. let few = short.short in absurd (omega (arith, few, long));
+  came = λ counted. x.named.came (counted_bare lines lines.form text x.bare x.is_bare counted);
   key_is = x.named.kept;
 }
 
@@ -217,7 +235,7 @@ line_taken lines s from mid now a b x y =
       took = subst (λ xs. Took from now xs) (sym all) (took_both from mid now x.text (y.text ++ y.tail) x.took y.took);
       none = All-append (λ c. c ≢ end) x.text y.text x.none y.none;
       is = tail_is end text y.tail now (omega (arith, size, long)) y.is;
-      came = long_came lines text b.reading (omega (arith, size, long)) (y.ends x.text x.on);
+      came = named_came lines text b.reading (y.ends x.text x.on);
       held = subst (λ xs. Holds b xs) (sym all) (y.held x.text x.held);
     }
 
@@ -247,8 +265,8 @@ line_ended lines old last new from now p q r s t u passed quiet x closes =
               is = x.came.is;
               key_told = told_key last.current.reading.key entry x.came.key x.came.key_is closes.key;
               right =
-                  λ short.
-                  subst (λ (t : Terms). IsFor t.rules t.most entry.key.is_lost x.came.value entry.answer) quiet.keeps (closes.right x.came.value (x.came.came short));
+                  λ counted.
+                  subst (λ (t : Terms). IsFor t.rules t.most entry.key.is_lost x.came.value entry.answer) quiet.keeps (closes.right x.came.value (x.came.came counted));
             };
         held = handed old.current last.current entry (x.text ++ x.tail) quiet.keeps x.held closes.held closes.may;
       },
@@ -256,7 +274,7 @@ line_ended lines old last new from now p q r s t u passed quiet x closes =
 
 -- ---- the value
 
-ready_held : (old mid : Reading) (form : Form) → (mid ≡ old) ⊎ (mid ≡ record old { answer = Some (answer.Checked found.OutOfMemory) }) → IsReady old form → IsReady mid form
+pub ready_held : (old mid : Reading) (form : Form) → (mid ≡ old) ⊎ (mid ≡ record old { answer = Some (answer.Checked found.OutOfMemory) }) → IsReady old form → IsReady mid form
 ready_held old mid form (inl same) ready = subst (λ r. IsReady r form) (sym same) ready
 ready_held old mid form (inr out) ready = inr (inl (ap (λ r. r.answer) out))
 
@@ -300,25 +318,26 @@ front_came old new form field digits few null text kept key (inr (inl out)) = in
 front_came old new form field digits few null text kept key (inr (inr lost)) =
     inr (inr (subst (λ o. IfSome o (λ a. new.answer ≡ Some a)) lost.0 kept, ap (λ k. k.is_lost) key ∙ lost.1))
 
--- a field of a line and its KEY came
-pub field_came : (lines : Lines) (line value : List ℕ) (parts : Parts) (old mid next last : Reading) → AreParts lines.field line parts → value ≡ part_of line parts
-    → (IsReady old lines.form → IsReady mid lines.form) → (is_null value ≡ true → mid.answer ≡ None → next.answer ≡ Some answer.Null)
+-- a field of a line came
+pub part_came : (lines : Lines) (line value : List ℕ) (parts : Parts) (old mid next last : Reading) → value ≡ part_of line parts → (IsReady old lines.form → IsReady mid lines.form)
+    → (is_null value ≡ true → mid.answer ≡ None → next.answer ≡ Some answer.Null)
     → (is_null value ≡ false → mid.answer ≡ None → IsOfDigits lines.form → length value < 2 ^ 63 → HasSpelled mid lines.form 0 []
     → HasSpelled next lines.form (mark_in lines.form value) (characters_in lines.form (behind_mark lines.form value)))
-    → IfSome mid.answer (λ a. next.answer ≡ Some a) → next.key ≡ mid.key → ((v : Value) → Came next v → Came last v) → (HasNoKey old.key → IsKeyOf last.key (key_of line parts))
+    → IfSome mid.answer (λ a. next.answer ≡ Some a) → next.key ≡ mid.key → ((v : Value) → Came next v → Came last v) → IsReady old lines.form → IsCounted lines.form line
+    → Came last (value_in lines.form (part_of line parts))
+part_came lines line value parts old mid next last is ready null text kept key more first counted =
+    let few : length value < 2 ^ 63 =
+    let size = ap length is in
+    let of_take = length-take (parts.to - parts.from) (drop parts.from line) in
+    let of_drop = length-drop parts.from line in
+    let all = counted.few in
+    omega (arith, size, of_take, of_drop, all) in
+    subst (λ xs. Came last (value_in lines.form xs)) is
+    (more (value_in lines.form value) (front_came mid next lines.form value counted.digits few null text kept key (ready first)))
+
+-- and its KEY
+pub field_came : (lines : Lines) (line : List ℕ) (parts : Parts) (old last : Reading) → AreParts lines.field line parts
+    → (IsReady old lines.form → IsCounted lines.form line → Came last (value_in lines.form (part_of line parts))) → (HasNoKey old.key → IsKeyOf last.key (key_of line parts))
     → FieldCame lines line old last
-field_came lines line value parts old mid next last are is ready null text kept key more named = record {
-  field = value;
-  key = key_of line parts;
-  is_field = subst (λ xs. IsValue lines.field line xs (key_of line parts)) (sym is) (parts_value lines.field line parts are);
-  came =
-      λ first short.
-      let few : length value < 2 ^ 63 =
-      let size = ap length is in
-      let of_take = length-take (parts.to - parts.from) (drop parts.from line) in
-      let of_drop = length-drop parts.from line in
-      let most = short.short in
-      omega (arith, size, of_take, of_drop, most) in
-      more (value_in lines.form value) (front_came mid next lines.form value short.digits few null text kept key (ready first));
-  key_is = named;
-}
+field_came lines line parts old last are came named =
+    record { field = part_of line parts; key = key_of line parts; is_field = parts_value lines.field line parts are; came = came; key_is = named }

@@ -1,21 +1,145 @@
 -- A line that is read stretch by stretch.
-use Rattle.std.proofs.Common.{◌≡◌, ◌≢◌, ◌⊎◌, ℕ, ◌+◌, ◌-◌, ◌≤◌, ◌<◌, ◌==◌, not, Bool, true, false, if◌then◌else◌, List, [], ◌∷◌, ◌++◌, length, take, drop, get_or, Option, Some, None, inl, inr, refl, sym, ap, subst, ◌∙◌, arith, append_assoc, append-nil, length-append}
+use Rattle.std.proofs.Common.{◌≡◌, ◌≢◌, ◌⊎◌, ℕ, ◌+◌, ◌-◌, ◌≤◌, ◌<◌, ◌^◌, ◌==◌, ◌&&◌, ◌||◌, not, Bool, true, false, if◌then◌else◌, List, [], ◌∷◌, ◌++◌, length, take, drop, get_or, Option, Some, None, inl, inr, refl, sym, ap, subst, ◌∙◌, arith, append_assoc, append-nil, length-append}
 use Rattle.std.proofs.lemmas.Bool.{cases_eq, cases_lt, eqb-true, eq-eqb, ne_eqb}
-use Rattle.std.proofs.lemmas.List.{drop_at, drop_more, length-take-le, same_from_push, take-append-drop, take-append-le, take_all, take_at}
+use Rattle.std.proofs.lemmas.List.{drop-append-le, drop_at, drop_more, length-drop, length-take-le, same_from_push, take-append-drop, take-append-le, take_all, take_at}
 use Rattle.std.proofs.lemmas.List.Elements.{All-append, All-cons}
 use Rattle.std.specs.Option.{is_some}
-use Rattle.std.specs.Prelude.{slice_index}
+use Rattle.std.specs.Prelude.{IfSome, slice_index}
 use Rattle.memchr.specs.Find.{IsFirstByte, is_byte}
+use Rattle.jser_inputs.specs.declared.Form.{Form}
+use Rattle.jser_inputs.specs.declared.Form.TheVariants as form
+use Rattle.jser_scan.specs.declared.Found.TheVariants as found
+use Rattle.jser_records.specs.declared.answer.Answer.TheVariants as answer
 use Rattle.jser_records.specs.declared.key.Key.{Key}
 use Rattle.jser_records.specs.declared.layout.Lines.{Lines}
 use Rattle.jser_records.specs.declared.lines.Stretch.{Stretch}
 use Rattle.jser_records.specs.declared.lines.Stretch.TheVariants as stretch
 use Rattle.jser_records.specs.declared.parts.Parts.{Parts}
-use Rattle.jser_records.specs.Arriving.{Arriving, HasNone, IsBefore, Took}
+use Rattle.jser_records.specs.declared.reading.Reading.{Reading}
+use Rattle.jser_records.specs.Arriving.{Arriving, HasNone, IsBefore, Took, room_size}
 use Rattle.jser_records.specs.Fields.{AreParts, IsBare, IsThere, KeyBeside, key_of, part_of, tabs_in}
-use Rattle.jser_records.specs.Keys.{HasLostKey, IsKeyOf, key_if, key_size, longer_key, most_key}
-use Rattle.jser_records.specs.Stretches.{GoesOn, InStretch, IsIn, IsLate, IsNamed, LineNamed, PieceEnds, value_stretch}
+use Rattle.jser_records.specs.Keys.{HasLostKey, HasNoKey, IsKeyOf, key_if, key_size, longer_key, most_key}
+use Rattle.jser_records.specs.Readings.{AddsKey, Came, HasCome, HasSpelled, HasStopped, IsCounted, IsOfDigits, Value, text_of, value_in}
+use Rattle.jser_records.specs.Stretches.{GoesOn, InStretch, IsApart, IsIn, IsLate, IsNamed, LineNamed, PieceEnds, value_stretch}
+use Rattle.jser_records.specs.Texts.{behind_mark, blanked, characters_in, mark_in, mark_size, short_mark}
 use Rattle.jser_records.proofs.FieldLemmas.{first_tab, no_tab, none_in, tabs_both}
+use Rattle.jser_records.proofs.TextLemmas.{characters_size}
+
+-- ---- what is answered where no more is read
+
+pub stopped_keyed : (old new : Reading) (bytes : List ℕ) → AddsKey old new bytes → HasLostKey new.key → HasStopped new
+stopped_keyed old new bytes (inl adds) lost = let on = adds.1.on in let off = lost.lost in absurd (cc)
+stopped_keyed old new bytes (inr full) lost = inr (ap (λ r. r.answer) full.0, lost.lost)
+
+pub stopped_none : (r : Reading) → HasNoKey r.key → HasLostKey r.key → HasStopped r
+stopped_none r none lost = let on = none.kept in let off = lost.lost in absurd (cc)
+
+pub stopped_lost : (old new : Reading) → new ≡ record old { key = new.key; answer = Some answer.LongKey } → HasLostKey new.key → HasStopped new
+stopped_lost old new is lost = inr (ap (λ r. r.answer) is, lost.lost)
+
+pub stopped_kept : (old new : Reading) → IfSome old.answer (λ a. new.answer ≡ Some a) → new.key ≡ old.key → HasStopped old → HasStopped new
+stopped_kept old new kept same (inl out) = inl (subst (λ o. IfSome o (λ a. new.answer ≡ Some a)) out kept)
+stopped_kept old new kept same (inr long) = inr (subst (λ o. IfSome o (λ a. new.answer ≡ Some a)) long.0 kept, ap (λ k. k.is_lost) same ∙ long.1)
+
+stopped_same : (old new : Reading) → IfSome old.answer (λ a. new ≡ old) → HasStopped old → HasStopped new
+stopped_same old new kept (inl out) = subst HasStopped (sym (subst (λ o. IfSome o (λ a. new ≡ old)) out kept)) (inl out)
+stopped_same old new kept (inr long) = subst HasStopped (sym (subst (λ o. IfSome o (λ a. new ≡ old)) long.0 kept)) (inr long)
+
+-- ---- the characters of a value, piece after piece
+
+-- more of them were read
+pub record MoreSpelled (form : Form) (text : List ℕ) (old new : Reading) : Type 0 where
+  pub spelled : (mark : ℕ) (before : List ℕ) → IsOfDigits form → length (before ++ text) < 2 ^ 63 → HasSpelled old form mark before → HasSpelled new form mark (before ++ characters_in form text)
+  pub answered : IfSome old.answer (λ a. new ≡ old)
+  pub key : new.key ≡ old.key
+
+and_false : (b : Bool) → (b && false) ≡ false
+and_false true = refl
+and_false false = refl
+
+no_pair : (c d : ℕ) → (c ≡ 0x5C → d ≡ 0x6E → ⊥) → (c == 0x5C && d == 0x6E) ≡ false
+no_pair c d not_both = elim (cases_eq c 0x5C) [
+  | inl is ↦ ap (λ b. c == 0x5C && b) (ne_eqb d 0x6E (not_both is)) ∙ and_false (c == 0x5C)
+  | inr other ↦ ap (λ b. b && d == 0x6E) (ne_eqb c 0x5C other)
+]
+
+either_both : (b : Bool) (all rest one two more : List ℕ) → all ≡ one ++ more → rest ≡ two ++ more → (if b then all else rest) ≡ (if b then one else two) ++ more
+either_both true all rest one two more is_all is_rest = is_all
+either_both false all rest one two more is_all is_rest = is_rest
+
+blanked_both : (xs ys : List ℕ) → IsApart xs ys → blanked (xs ++ ys) ≡ blanked xs ++ blanked ys
+blanked_both [] ys apart = refl
+blanked_both (c ∷ []) [] apart = refl
+blanked_both (c ∷ []) (d ∷ ys) apart =
+    ap (λ b. if b then 0x20 ∷ 0x20 ∷ blanked ys else c ∷ blanked (d ∷ ys))
+    (no_pair c d (λ is next. apart [] ys (ap (λ b. b ∷ []) is) (ap (λ b. b ∷ ys) next)))
+blanked_both (c ∷ d ∷ xs) ys apart =
+    either_both (c == 0x5C && d == 0x6E) (0x20 ∷ 0x20 ∷ blanked (xs ++ ys)) (c ∷ blanked (d ∷ (xs ++ ys))) (0x20 ∷ 0x20 ∷ blanked xs) (c ∷ blanked (d ∷ xs)) (blanked ys)
+    (ap (λ zs. 0x20 ∷ 0x20 ∷ zs) (blanked_both xs ys (λ front rest is. apart (c ∷ d ∷ front) rest (ap (λ zs. c ∷ d ∷ zs) is))))
+    (ap (λ zs. c ∷ zs) (blanked_both (d ∷ xs) ys (λ front rest is. apart (c ∷ front) rest (ap (λ zs. c ∷ zs) is))))
+
+if_most : (b : Bool) (m n most : ℕ) → m ≤ most → n ≤ most → (if b then m else n) ≤ most
+if_most true m n most one two = one
+if_most false m n most one two = two
+
+mark_most : (a b c : ℕ) (text : List ℕ) → mark_size (a ∷ b ∷ c ∷ text) ≤ 3
+mark_most a b c text =
+    if_most (a == 0x5C && b == 0x5C && c == 0x78) 3 (short_mark a b) 3 (omega arith) (if_most ((a == 0x5C || a == 0x30) && b == 0x78) 2 0 3 (omega arith) (omega arith))
+
+text_both : (form : Form) (a b c : ℕ) (text more : List ℕ) → IsApart (a ∷ b ∷ c ∷ text) more
+    → value_in form (a ∷ b ∷ c ∷ (text ++ more))
+    ≡ text_of form (mark_in form (a ∷ b ∷ c ∷ text)) (characters_in form (behind_mark form (a ∷ b ∷ c ∷ text)) ++ characters_in form more)
+text_both form.Binary a b c text more apart = refl
+text_both form.Hex a b c text more apart =
+    ap (λ xs. text_of form.Hex (mark_size (a ∷ b ∷ c ∷ text)) xs)
+    (drop-append-le (mark_size (a ∷ b ∷ c ∷ text)) (a ∷ b ∷ c ∷ text) more (let most = mark_most a b c text in omega (arith, most)))
+text_both form.Base64 a b c text more apart = ap (λ xs. text_of form.Base64 0 xs) (blanked_both (a ∷ b ∷ c ∷ text) more apart)
+text_both form.Base64Url a b c text more apart = ap (λ xs. text_of form.Base64Url 0 xs) (blanked_both (a ∷ b ∷ c ∷ text) more apart)
+
+value_both : (form : Form) (field more : List ℕ) → 3 ≤ length field → IsApart field more
+    → value_in form (field ++ more) ≡ text_of form (mark_in form field) (characters_in form (behind_mark form field) ++ characters_in form more)
+value_both form [] more long apart = absurd (omega (arith, long))
+value_both form (a ∷ []) more long apart = absurd (omega (arith, long))
+value_both form (a ∷ b ∷ []) more long apart = absurd (omega (arith, long))
+value_both form (a ∷ b ∷ c ∷ text) more long apart = text_both form a b c text more apart
+
+value_alone : (form : Form) (field : List ℕ) → 3 ≤ length field → value_in form field ≡ text_of form (mark_in form field) (characters_in form (behind_mark form field))
+value_alone form [] long = absurd (omega (arith, long))
+value_alone form (a ∷ []) long = absurd (omega (arith, long))
+value_alone form (a ∷ b ∷ []) long = absurd (omega (arith, long))
+value_alone form (a ∷ b ∷ c ∷ text) long = refl
+
+behind_size : (form : Form) (text : List ℕ) → length (behind_mark form text) ≤ length text
+behind_size form.Binary text = omega arith
+behind_size form.Hex text = let size = length-drop (mark_size text) text in omega (arith, size)
+behind_size form.Base64 text = omega arith
+behind_size form.Base64Url text = omega arith
+
+-- more of a value came
+came_more : (form : Form) (field more : List ℕ) (old new : Reading) → IsOfDigits form → length (field ++ more) < 2 ^ 63 → 3 ≤ length field → IsApart field more → MoreSpelled form more old new
+    → Came old (value_in form field) → Came new (value_in form (field ++ more))
+came_more form field more old new digits few long apart m (inr stopped) = inr (stopped_same old new m.answered stopped)
+came_more form field more old new digits few long apart m (inl has) =
+    let before : List ℕ = characters_in form (behind_mark form field) in
+    let fewer : length (before ++ more) < 2 ^ 63 =
+    let one = length-append before more in
+    let two = length-append field more in
+    let chars = characters_size form (behind_mark form field) in
+    let behind = behind_size form field in
+    omega (arith, one, two, chars, behind, few) in
+    inl (subst (λ v. HasCome new v) (sym (value_both form field more long apart))
+    (m.spelled (mark_in form field) before digits fewer (subst (λ v. HasCome old v) (value_alone form field long) has)))
+
+counted_front : (form : Form) (line more : List ℕ) → IsCounted form (line ++ more) → IsCounted form line
+counted_front form line more counted =
+    record { few = let size = length-append line more in let all = counted.few in omega (arith, size, all); digits = counted.digits }
+
+apart_behind : (line xs ys more : List ℕ) → line ≡ xs ++ (ys ++ []) → IsApart line more → IsApart ys more
+apart_behind line xs ys more is apart = λ front rest ends begins.
+    apart (xs ++ front) rest (is ∙ ap (λ zs. xs ++ zs) (append-nil ys ∙ ends) ∙ sym (append_assoc xs front (0x5C ∷ []))) begins
+
+pub apart_front : (line xs ys text : List ℕ) → text ≡ xs ++ ys → IsApart line text → IsApart line xs
+apart_front line xs ys text is apart = λ front rest ends begins. apart front (rest ++ ys) ends (is ∙ ap (λ zs. zs ++ ys) begins)
 
 -- ---- the first bytes
 
@@ -27,34 +151,39 @@ too_long : (key : Key) (has : Option (List ℕ)) → IsKeyOf key has → most_ke
 too_long key has (inl known) long = let few = known.1 in absurd (omega (arith, few, long))
 too_long key has (inr lost) long = lost.0
 
-part_in : (asked : Option ℕ) (line behind : List ℕ) (parts : Parts) (key : Key) → IsThere asked line (take parts.from line) (part_of line parts) (drop parts.to line) (key_of line parts) → drop parts.to line ≡ behind
-    → IsKeyOf key (key_of line parts) → IsIn asked line behind key
-part_in asked line behind parts key there is kept = record {
+part_in : (form : Form) (asked : Option ℕ) (line behind : List ℕ) (parts : Parts) (r : Reading) → IsThere asked line (take parts.from line) (part_of line parts) (drop parts.to line) (key_of line parts)
+    → drop parts.to line ≡ behind → IsKeyOf r.key (key_of line parts) → (IsCounted form line → Came r (value_in form (part_of line parts))) → (HasLostKey r.key → HasStopped r)
+    → IsIn form asked line behind r
+part_in form asked line behind parts r there is kept came stopped = record {
   before = take parts.from line;
   field = part_of line parts;
   named = key_of line parts;
   there = subst (λ xs. IsThere asked line (take parts.from line) (part_of line parts) xs (key_of line parts)) is there;
   kept = kept;
+  came = came;
+  stopped = stopped;
 }
 
-pub front_in : (asked : Option ℕ) (line : List ℕ) (parts : Parts) (key : Key) → AreParts asked line parts → drop parts.to line ≡ [] → most_key < length line → IsKeyOf key (key_of line parts)
-    → InStretch (value_stretch asked) asked line key
-front_in None line parts key (inl there) none long kept = part_in None line [] parts key there none kept
-front_in None line parts key (inr missing) none long kept = absurd missing.0
-front_in (Some number) line parts key (inl there) none long kept = inl (part_in (Some number) line [] parts key there none kept)
-front_in (Some number) line parts key (inr missing) none long kept =
+pub front_in : (form : Form) (asked : Option ℕ) (line : List ℕ) (parts : Parts) (r : Reading) → AreParts asked line parts → drop parts.to line ≡ [] → most_key < length line
+    → IsKeyOf r.key (key_of line parts) → (IsCounted form line → Came r (value_in form (part_of line parts))) → (HasLostKey r.key → HasStopped r)
+    → InStretch (value_stretch asked) form asked line r
+front_in form None line parts r (inl there) none long kept came stopped = part_in form None line [] parts r there none kept came stopped
+front_in form None line parts r (inr missing) none long kept came stopped = absurd missing.0
+front_in form (Some number) line parts r (inl there) none long kept came stopped = inl (part_in form (Some number) line [] parts r there none kept came stopped)
+front_in form (Some number) line parts r (inr missing) none long kept came stopped =
     let size : key_size (key_of line parts) ≡ length line = ap key_size missing.2 ∙ if_size line in
-    inr (record { first = line; rest = []; split = sym (append-nil line); missing = missing.0; long = long; lost = too_long key (key_of line parts) kept (omega (arith, size, long)) })
+    let lost : HasLostKey r.key = too_long r.key (key_of line parts) kept (omega (arith, size, long)) in
+    inr (record { first = line; rest = []; split = sym (append-nil line); missing = missing.0; long = long; lost = lost; stopped = stopped lost })
 
-pub front_behind : (asked : Option ℕ) (line : List ℕ) (parts : Parts) (key : Key) → AreParts asked line parts → 0 < length (drop parts.to line) → IsKeyOf key (key_of line parts)
-    → InStretch stretch.Behind asked line key
-front_behind None line parts key (inl there) some kept = let none = ap length there.is_asked in absurd (omega (arith, some, none))
-front_behind None line parts key (inr missing) some kept = absurd missing.0
-front_behind (Some number) line parts key (inl there) some kept = elim there.is_field.ends [
+pub front_behind : (form : Form) (asked : Option ℕ) (line : List ℕ) (parts : Parts) (r : Reading) → AreParts asked line parts → 0 < length (drop parts.to line) → IsKeyOf r.key (key_of line parts)
+    → (IsCounted form line → Came r (value_in form (part_of line parts))) → (HasLostKey r.key → HasStopped r) → InStretch stretch.Behind form asked line r
+front_behind form None line parts r (inl there) some kept came stopped = let none = ap length there.is_asked in absurd (omega (arith, some, none))
+front_behind form None line parts r (inr missing) some kept came stopped = absurd missing.0
+front_behind form (Some number) line parts r (inl there) some kept came stopped = elim there.is_field.ends [
   | inl none ↦ let empty = ap length none in absurd (omega (arith, some, empty))
-  | inr more ↦ inl (more.0, part_in (Some number) line (0x09 ∷ more.0) parts key there more.1 kept)
+  | inr more ↦ inl (more.0, part_in form (Some number) line (0x09 ∷ more.0) parts r there more.1 kept came stopped)
 ]
-front_behind (Some number) line parts key (inr missing) some kept = let none = ap length missing.3 in absurd (omega (arith, some, none))
+front_behind form (Some number) line parts r (inr missing) some kept came stopped = let none = ap length missing.3 in absurd (omega (arith, some, none))
 
 -- ---- bytes behind them
 
@@ -63,8 +192,44 @@ regroup : (before field more : List ℕ) → (before ++ (field ++ [])) ++ more �
 regroup before field more =
     ap (λ xs. (before ++ xs) ++ more) (append-nil field) ∙ append_assoc before field more ∙ ap (λ xs. before ++ xs) (sym (append-nil (field ++ more)))
 
-pub in_more : (asked : Option ℕ) (line more : List ℕ) (old new : Key) → HasNone 0x09 more → new ≡ old → IsIn asked line [] old → IsIn asked (line ++ more) [] new
-in_more asked line more old new none same x = record {
+-- so much of a line, with so little before the value, has at least three characters of the value
+long_field : (line before field : List ℕ) (named : Option (List ℕ)) → KeyBeside before [] named → key_size named ≤ most_key → line ≡ before ++ (field ++ []) → room_size ≤ length line + 1
+    → 3 ≤ length field
+long_field line before field named (inl key) few is long =
+    let size = ap length is ∙ length-append before (field ++ []) in
+    let value = ap length (append-nil field) in
+    let front = ap length key.1 ∙ length-append key.0 (0x09 ∷ []) in
+    let named_is = ap key_size key.2 in
+    let whole = length-append key.0 [] in
+    omega (arith, size, value, front, named_is, whole, few, long)
+long_field line before field named (inr (inl first)) few is long = let none = ap length first.2 in absurd (omega (arith, none))
+long_field line before field named (inr (inr alone)) few is long =
+    let size = ap length is ∙ length-append before (field ++ []) in
+    let value = ap length (append-nil field) in
+    let none = ap length alone.0 in
+    omega (arith, size, value, none, long)
+
+in_came : (form : Form) (asked : Option ℕ) (line more rest : List ℕ) (old new : Reading) → MoreSpelled form more old new → room_size ≤ length line + 1 → IsApart line more
+    → (x : IsIn form asked line [] old) → IsCounted form (line ++ (more ++ rest)) → Came new (value_in form (x.field ++ more))
+in_came form asked line more rest old new m long apart x counted = elim x.kept [
+  | inl known ↦
+      let is = x.there.is_field.split in
+      let few : length (x.field ++ more) < 2 ^ 63 =
+      let all = counted.few in
+      let one = length-append line (more ++ rest) in
+      let two = length-append more rest in
+      let three = ap length is ∙ length-append x.before (x.field ++ []) in
+      let four = ap length (append-nil x.field) in
+      let five = length-append x.field more in
+      omega (arith, all, one, two, three, four, five) in
+      came_more form x.field more old new counted.digits few (long_field line x.before x.field x.named x.there.is_key known.1 is long)
+      (apart_behind line x.before x.field more is apart) m (x.came (counted_front form line (more ++ rest) counted))
+  | inr lost ↦ inr (stopped_same old new m.answered (x.stopped lost.0))
+]
+
+pub in_more : (form : Form) (asked : Option ℕ) (line more : List ℕ) (old new : Reading) → HasNone 0x09 more → MoreSpelled form more old new → room_size ≤ length line + 1 → IsApart line more
+    → IsIn form asked line [] old → IsIn form asked (line ++ more) [] new
+in_more form asked line more old new none m long apart x = record {
   before = x.before;
   field = x.field ++ more;
   named = x.named;
@@ -80,7 +245,9 @@ in_more asked line more old new none same x = record {
         is_asked = x.there.is_asked;
         is_key = x.there.is_key;
       };
-  kept = subst (λ k. IsKeyOf k x.named) (sym same) x.kept;
+  kept = subst (λ k. IsKeyOf k x.named) (sym m.key) x.kept;
+  came = λ counted. in_came form asked line more [] old new m long apart x (subst (λ xs. IsCounted form (line ++ xs)) (sym (append-nil more)) counted);
+  stopped = λ lost. stopped_same old new m.answered (x.stopped (subst HasLostKey m.key lost));
 }
 
 -- a KEY that is lost stays so
@@ -89,22 +256,25 @@ still_lost old new first more lost long adds =
     let size = length-append first more in
     too_long new (Some (first ++ more)) (adds (Some first) (inr (lost, long))) (omega (arith, size, long))
 
-late_on : (asked : Option ℕ) (line more : List ℕ) (old new : Key) (x : IsLate asked line old) → HasLostKey new → IsLate asked (line ++ more) new
-late_on asked line more old new x lost = record {
+late_on : (asked : Option ℕ) (line more : List ℕ) (old new : Reading) (x : IsLate asked line old) → HasLostKey new.key → HasStopped new → IsLate asked (line ++ more) new
+late_on asked line more old new x lost stopped = record {
   first = x.first;
   rest = x.rest ++ more;
   split = ap (λ xs. xs ++ more) x.split ∙ append_assoc x.first x.rest more;
   missing = x.missing;
   long = x.long;
   lost = lost;
+  stopped = stopped;
 }
 
-pub late_same : (asked : Option ℕ) (line more : List ℕ) (old new : Key) → new ≡ old → IsLate asked line old → IsLate asked (line ++ more) new
-late_same asked line more old new same x = late_on asked line more old new x (subst HasLostKey (sym same) x.lost)
+late_same : (form : Form) (asked : Option ℕ) (line more : List ℕ) (old new : Reading) → MoreSpelled form more old new → IsLate asked line old → IsLate asked (line ++ more) new
+late_same form asked line more old new m x = late_on asked line more old new x (subst HasLostKey (sym m.key) x.lost) (stopped_same old new m.answered x.stopped)
 
-late_more : (asked : Option ℕ) (line more added : List ℕ) (old new : Key) → ((has : Option (List ℕ)) → IsKeyOf old has → IsKeyOf new (longer_key has added)) → IsLate asked line old
-    → IsLate asked (line ++ more) new
-late_more asked line more added old new adds x = late_on asked line more old new x (still_lost old new x.first added x.lost x.long adds)
+late_more : (asked : Option ℕ) (line more added : List ℕ) (old mid new : Reading) → mid.key ≡ old.key → ((has : Option (List ℕ)) → IsKeyOf mid.key has → IsKeyOf new.key (longer_key has added))
+    → (HasLostKey new.key → HasStopped new) → IsLate asked line old → IsLate asked (line ++ more) new
+late_more asked line more added old mid new same adds stopped x =
+    let lost : HasLostKey new.key = still_lost mid.key new.key x.first added (subst HasLostKey (sym same) x.lost) x.long adds in
+    late_on asked line more old new x lost (stopped lost)
 
 -- the field behind a value begins
 pub record Beside (before behind : List ℕ) (key : Key) : Type 0 where
@@ -146,11 +316,12 @@ behind_begins before rest named is_first old new (inr (inr alone)) is kept adds 
   kept = behind_none rest is_first old new is (subst (λ o. IsKeyOf old o) alone.2 kept) adds;
 }
 
-in_behind : (number : ℕ) (line value rest : List ℕ) (is_first : Bool) (old new : Key) → HasNone 0x09 value → is_first ≡ not old.is_there
-    → ((has : Option (List ℕ)) → IsKeyOf old has → IsKeyOf new (longer_key has (drop (if is_first then 1 else 0) (0x09 ∷ rest)))) → IsIn (Some number) line [] old
-    → IsIn (Some number) (line ++ (value ++ (0x09 ∷ rest))) (0x09 ∷ rest) new
-in_behind number line value rest is_first old new none is adds x =
-    let y = behind_begins x.before rest x.named is_first old new x.there.is_key is x.kept adds in
+in_behind : (form : Form) (number : ℕ) (line value rest : List ℕ) (is_first : Bool) (old mid new : Reading) → HasNone 0x09 value → is_first ≡ not mid.key.is_there
+    → ((has : Option (List ℕ)) → IsKeyOf mid.key has → IsKeyOf new.key (longer_key has (drop (if is_first then 1 else 0) (0x09 ∷ rest)))) → MoreSpelled form value old mid
+    → ((v : Value) → Came mid v → Came new v) → (HasLostKey new.key → HasStopped new) → room_size ≤ length line + 1 → IsApart line value → IsIn form (Some number) line [] old
+    → IsIn form (Some number) (line ++ (value ++ (0x09 ∷ rest))) (0x09 ∷ rest) new
+in_behind form number line value rest is_first old mid new none is adds m more stopped long apart x =
+    let y = behind_begins x.before rest x.named is_first mid.key new.key x.there.is_key is (subst (λ k. IsKeyOf k x.named) (sym m.key) x.kept) adds in
     record {
       before = x.before;
       field = x.field ++ value;
@@ -170,33 +341,38 @@ in_behind number line value rest is_first old new none is adds x =
             is_key = y.is_key;
           };
       kept = y.kept;
+      came = λ counted. more (value_in form (x.field ++ value)) (in_came form (Some number) line value (0x09 ∷ rest) old mid m long apart x counted);
+      stopped = stopped;
     }
 
 -- the value ends in these bytes
-pub value_ended : (number : ℕ) (line text behind : List ℕ) (at : ℕ) (is_first : Bool) (old mid new : Key) → IsBefore 0x09 text at → behind ≡ drop at text → mid ≡ old → is_first ≡ not mid.is_there
-    → (0 < length behind → (has : Option (List ℕ)) → IsKeyOf mid has → IsKeyOf new (longer_key has (drop (if is_first then 1 else 0) behind)))
-    → InStretch stretch.Value (Some number) line old → InStretch stretch.Behind (Some number) (line ++ text) new
-value_ended number line text behind at is_first old mid new b is same first adds was =
+pub value_ended : (form : Form) (number : ℕ) (line text behind : List ℕ) (at : ℕ) (is_first : Bool) (old mid new : Reading) → IsBefore 0x09 text at → behind ≡ drop at text
+    → MoreSpelled form (take at text) old mid → is_first ≡ not mid.key.is_there
+    → (0 < length behind → (has : Option (List ℕ)) → IsKeyOf mid.key has → IsKeyOf new.key (longer_key has (drop (if is_first then 1 else 0) behind)))
+    → ((v : Value) → Came mid v → Came new v) → (0 < length behind → HasLostKey new.key → HasStopped new) → room_size ≤ length line + 1 → IsApart line text
+    → InStretch stretch.Value form (Some number) line old → InStretch stretch.Behind form (Some number) (line ++ text) new
+value_ended form number line text behind at is_first old mid new b is m first adds more stopped long apart was =
     let few : length (take at text) ≡ at = let i = b.inside in length-take-le at text (omega (arith, i)) in
     let tab : behind ≡ 0x09 ∷ b.rest = is ∙ ap (λ xs. drop at xs) b.split ∙ drop_at (take at text) (0x09 ∷ b.rest) at few in
     let some : 0 < length behind = let size = ap length tab in omega (arith, size) in
-    let added : (has : Option (List ℕ)) → IsKeyOf old has → IsKeyOf new (longer_key has (drop (if is_first then 1 else 0) (0x09 ∷ b.rest))) =
-    λ has known.
-    subst (λ xs. IsKeyOf new (longer_key has (drop (if is_first then 1 else 0) xs))) tab (adds some has (subst (λ k. IsKeyOf k has) (sym same) known)) in
+    let added : (has : Option (List ℕ)) → IsKeyOf mid.key has → IsKeyOf new.key (longer_key has (drop (if is_first then 1 else 0) (0x09 ∷ b.rest))) =
+    λ has known. subst (λ xs. IsKeyOf new.key (longer_key has (drop (if is_first then 1 else 0) xs))) tab (adds some has known) in
     let new_line : line ++ (take at text ++ (0x09 ∷ b.rest)) ≡ line ++ text = ap (λ xs. line ++ xs) (sym b.split) in
     elim was [
       | inl x ↦ inl (
         b.rest,
-        subst (λ xs. IsIn (Some number) xs (0x09 ∷ b.rest) new) new_line
-            (in_behind number line (take at text) b.rest is_first old new b.none (first ∙ ap (λ (k : Key). not k.is_there) same) added x),
+        subst (λ xs. IsIn form (Some number) xs (0x09 ∷ b.rest) new) new_line
+            (in_behind form number line (take at text) b.rest is_first old mid new b.none first added m more (stopped some) long
+            (apart_front line (take at text) (0x09 ∷ b.rest) text b.split apart) x),
       )
-      | inr late ↦ inr (late_more (Some number) line text (drop (if is_first then 1 else 0) (0x09 ∷ b.rest)) old new added late)
+      | inr late ↦ inr (late_more (Some number) line text (drop (if is_first then 1 else 0) (0x09 ∷ b.rest)) old mid new m.key added (stopped some) late)
     ]
 
 -- it does not end in them
-pub value_more : (number : ℕ) (line text : List ℕ) (old new : Key) → HasNone 0x09 text → new ≡ old → InStretch stretch.Value (Some number) line old → InStretch stretch.Value (Some number) (line ++ text) new
-value_more number line text old new none same (inl x) = inl (in_more (Some number) line text old new none same x)
-value_more number line text old new none same (inr late) = inr (late_same (Some number) line text old new same late)
+pub value_more : (form : Form) (number : ℕ) (line text : List ℕ) (old new : Reading) → HasNone 0x09 text → MoreSpelled form text old new → room_size ≤ length line + 1 → IsApart line text
+    → InStretch stretch.Value form (Some number) line old → InStretch stretch.Value form (Some number) (line ++ text) new
+value_more form number line text old new none m long apart (inl x) = inl (in_more form (Some number) line text old new none m long apart x)
+value_more form number line text old new none m long apart (inr late) = inr (late_same form (Some number) line text old new m late)
 
 -- more came behind a value
 key_more : (before rest more : List ℕ) (named : Option (List ℕ)) → KeyBeside before (0x09 ∷ rest) named → KeyBeside before (0x09 ∷ (rest ++ more)) (longer_key named more)
@@ -205,9 +381,10 @@ key_more before rest more named (inl key) =
 key_more before rest more named (inr (inl first)) = inr (inl (first.0 ++ more, first.1, ap (λ xs. xs ++ more) first.2, ap (λ o. longer_key o more) first.3))
 key_more before rest more named (inr (inr alone)) = let none = ap length alone.1 in absurd (omega (arith, none))
 
-in_behind_more : (number : ℕ) (line rest more : List ℕ) (old new : Key) → ((has : Option (List ℕ)) → IsKeyOf old has → IsKeyOf new (longer_key has more)) → IsIn (Some number) line (0x09 ∷ rest) old
-    → IsIn (Some number) (line ++ more) (0x09 ∷ (rest ++ more)) new
-in_behind_more number line rest more old new adds x = record {
+in_behind_more : (form : Form) (number : ℕ) (line rest more : List ℕ) (old new : Reading) → ((has : Option (List ℕ)) → IsKeyOf old.key has → IsKeyOf new.key (longer_key has more))
+    → ((v : Value) → Came old v → Came new v) → (HasLostKey new.key → HasStopped new) → IsIn form (Some number) line (0x09 ∷ rest) old
+    → IsIn form (Some number) (line ++ more) (0x09 ∷ (rest ++ more)) new
+in_behind_more form number line rest more old new adds goes stopped x = record {
   before = x.before;
   field = x.field;
   named = longer_key x.named more;
@@ -226,13 +403,15 @@ in_behind_more number line rest more old new adds x = record {
         is_key = key_more x.before rest more x.named x.there.is_key;
       };
   kept = adds x.named x.kept;
+  came = λ counted. goes (value_in form x.field) (x.came (counted_front form line more counted));
+  stopped = stopped;
 }
 
-pub behind_more : (asked : Option ℕ) (line more : List ℕ) (old new : Key) → ((has : Option (List ℕ)) → IsKeyOf old has → IsKeyOf new (longer_key has more)) → InStretch stretch.Behind asked line old
-    → InStretch stretch.Behind asked (line ++ more) new
-behind_more None line more old new adds was = absurd was
-behind_more (Some number) line more old new adds (inl x) = inl (x.0 ++ more, in_behind_more number line x.0 more old new adds x.1)
-behind_more (Some number) line more old new adds (inr late) = inr (late_more (Some number) line more more old new adds late)
+pub behind_more : (form : Form) (asked : Option ℕ) (line more : List ℕ) (old new : Reading) → ((has : Option (List ℕ)) → IsKeyOf old.key has → IsKeyOf new.key (longer_key has more))
+    → ((v : Value) → Came old v → Came new v) → (HasLostKey new.key → HasStopped new) → InStretch stretch.Behind form asked line old → InStretch stretch.Behind form asked (line ++ more) new
+behind_more form None line more old new adds goes stopped was = absurd was
+behind_more form (Some number) line more old new adds goes stopped (inl x) = inl (x.0 ++ more, in_behind_more form number line x.0 more old new adds goes stopped x.1)
+behind_more form (Some number) line more old new adds goes stopped (inr late) = inr (late_more (Some number) line more more old old new refl adds stopped late)
 
 -- ---- one more field, where the value is the last one
 
@@ -259,8 +438,8 @@ last_tab text (Some at) h is = elim (last_of text) [
   | inr x ↦ x
 ]
 
-pub last_lost : (line text : List ℕ) (at : Option ℕ) (new : Key) → IsFirstByte (is_byte 0x09) text at → is_some at ≡ true → most_key < length line → HasLostKey new → IsIn None (line ++ text) [] new
-last_lost line text at new h is long lost =
+pub last_lost : (form : Form) (line text : List ℕ) (at : Option ℕ) (new : Reading) → IsFirstByte (is_byte 0x09) text at → is_some at ≡ true → room_size ≤ length line + 1 → HasLostKey new.key → HasStopped new → IsIn form None (line ++ text) [] new
+last_lost form line text at new h is long lost stopped =
     let x = last_tab text at h is in
     let front : List ℕ = line ++ x.front in
     let before : line ++ (x.front ++ (0x09 ∷ [])) ≡ front ++ (0x09 ∷ []) = sym (append_assoc line x.front (0x09 ∷ [])) in
@@ -285,35 +464,105 @@ last_lost line text at new h is long lost =
             is_key = inl (front, before, refl);
           };
       kept = inr (lost, omega (arith, all, size, long));
+      came = λ counted. inr stopped;
+      stopped = λ is_lost. stopped;
     }
 
-pub last_more : (line text : List ℕ) (at : Option ℕ) (old new : Key) → ((h : at ≡ None) → HasNone 0x09 text) → is_some at ≡ false → new ≡ old → IsIn None line [] old → IsIn None (line ++ text) [] new
-last_more line text None old new none is same x = in_more None line text old new (none refl) same x
-last_more line text (Some at) old new none is same x = absurd (cc)
+pub last_more : (form : Form) (line text : List ℕ) (at : Option ℕ) (old new : Reading) → ((h : at ≡ None) → HasNone 0x09 text) → is_some at ≡ false → MoreSpelled form text old new
+    → room_size ≤ length line + 1 → IsApart line text → IsIn form None line [] old → IsIn form None (line ++ text) [] new
+last_more form line text None old new none is m long apart x = in_more form None line text old new (none refl) m long apart x
+last_more form line text (Some at) old new none is m long apart x = absurd (cc)
 
 -- ---- whichever field is asked for
 
-pub last_value_lost : (asked : Option ℕ) (line text : List ℕ) (at : Option ℕ) (old new : Key) → IsFirstByte (is_byte 0x09) text at → is_some at ≡ true → most_key < length line → HasLostKey new
-    → InStretch stretch.LastValue asked line old → InStretch stretch.LastValue asked (line ++ text) new
-last_value_lost None line text at old new h is long lost was = last_lost line text at new h is long lost
-last_value_lost (Some number) line text at old new h is long lost was = absurd was
+pub last_value_lost : (form : Form) (asked : Option ℕ) (line text : List ℕ) (at : Option ℕ) (old new : Reading) → IsFirstByte (is_byte 0x09) text at → is_some at ≡ true
+    → room_size ≤ length line + 1 → HasLostKey new.key → HasStopped new → InStretch stretch.LastValue form asked line old → InStretch stretch.LastValue form asked (line ++ text) new
+last_value_lost form None line text at old new h is long lost stopped was = last_lost form line text at new h is long lost stopped
+last_value_lost form (Some number) line text at old new h is long lost stopped was = absurd was
 
-pub last_value_more : (asked : Option ℕ) (line text : List ℕ) (at : Option ℕ) (old new : Key) → IsFirstByte (is_byte 0x09) text at → is_some at ≡ false → new ≡ old
-    → InStretch stretch.LastValue asked line old → InStretch stretch.LastValue asked (line ++ text) new
-last_value_more None line text at old new h is same was = last_more line text at old new (λ none. no_tab text (subst (λ o. IsFirstByte (is_byte 0x09) text o) none h)) is same was
-last_value_more (Some number) line text at old new h is same was = absurd was
+pub last_value_more : (form : Form) (asked : Option ℕ) (line text : List ℕ) (at : Option ℕ) (old new : Reading) → IsFirstByte (is_byte 0x09) text at → is_some at ≡ false
+    → MoreSpelled form text old new → room_size ≤ length line + 1 → IsApart line text → InStretch stretch.LastValue form asked line old → InStretch stretch.LastValue form asked (line ++ text) new
+last_value_more form None line text at old new h is m long apart was =
+    last_more form line text at old new (λ none. no_tab text (subst (λ o. IsFirstByte (is_byte 0x09) text o) none h)) is m long apart was
+last_value_more form (Some number) line text at old new h is m long apart was = absurd was
 
-pub value_ended_by : (asked : Option ℕ) (line text behind : List ℕ) (at : ℕ) (is_first : Bool) (old mid new : Key) → IsFirstByte (is_byte 0x09) text (Some at) → behind ≡ drop at text → mid ≡ old
-    → is_first ≡ not mid.is_there → (0 < length behind → (has : Option (List ℕ)) → IsKeyOf mid has → IsKeyOf new (longer_key has (drop (if is_first then 1 else 0) behind)))
-    → InStretch stretch.Value asked line old → InStretch stretch.Behind asked (line ++ text) new
-value_ended_by None line text behind at is_first old mid new h is same first adds was = absurd was
-value_ended_by (Some number) line text behind at is_first old mid new h is same first adds was =
-    value_ended number line text behind at is_first old mid new (first_tab text at h) is same first adds was
+pub value_ended_by : (form : Form) (asked : Option ℕ) (line text behind : List ℕ) (at : ℕ) (is_first : Bool) (old mid new : Reading) → IsFirstByte (is_byte 0x09) text (Some at)
+    → behind ≡ drop at text → MoreSpelled form (take at text) old mid → is_first ≡ not mid.key.is_there
+    → (0 < length behind → (has : Option (List ℕ)) → IsKeyOf mid.key has → IsKeyOf new.key (longer_key has (drop (if is_first then 1 else 0) behind)))
+    → ((v : Value) → Came mid v → Came new v) → (0 < length behind → HasLostKey new.key → HasStopped new) → room_size ≤ length line + 1 → IsApart line text
+    → InStretch stretch.Value form asked line old → InStretch stretch.Behind form asked (line ++ text) new
+value_ended_by form None line text behind at is_first old mid new h is m first adds more stopped long apart was = absurd was
+value_ended_by form (Some number) line text behind at is_first old mid new h is m first adds more stopped long apart was =
+    value_ended form number line text behind at is_first old mid new (first_tab text at h) is m first adds more stopped long apart was
 
-pub value_goes_on : (asked : Option ℕ) (line text : List ℕ) (old new : Key) → IsFirstByte (is_byte 0x09) text None → new ≡ old → InStretch stretch.Value asked line old
-    → InStretch stretch.Value asked (line ++ text) new
-value_goes_on None line text old new h same was = absurd was
-value_goes_on (Some number) line text old new h same was = value_more number line text old new (no_tab text h) same was
+pub value_goes_on : (form : Form) (asked : Option ℕ) (line text : List ℕ) (old new : Reading) → IsFirstByte (is_byte 0x09) text None → MoreSpelled form text old new
+    → room_size ≤ length line + 1 → IsApart line text → InStretch stretch.Value form asked line old → InStretch stretch.Value form asked (line ++ text) new
+value_goes_on form None line text old new h m long apart was = absurd was
+value_goes_on form (Some number) line text old new h m long apart was = value_more form number line text old new (no_tab text h) m long apart was
+
+-- the bytes of a record were kept
+same_held : (old new : Reading) → (new ≡ old) ⊎ (new ≡ record old { answer = Some (answer.Checked found.OutOfMemory) }) → (new.key ≡ old.key) × ((new ≡ old) ⊎ HasStopped new)
+same_held old new (inl same) = (ap (λ r. r.key) same, inl same)
+same_held old new (inr out) = (ap (λ r. r.key) out, inr (inl (ap (λ r. r.answer) out)))
+
+came_held : (old new : Reading) (v : Value) → (new ≡ old) ⊎ HasStopped new → Came old v → Came new v
+came_held old new v (inl same) came = subst (λ r. Came r v) (sym same) came
+came_held old new v (inr stopped) came = inr stopped
+
+stopped_held : (old new : Reading) → (new ≡ old) ⊎ HasStopped new → HasStopped old → HasStopped new
+stopped_held old new (inl same) stopped = subst HasStopped (sym same) stopped
+stopped_held old new (inr now) stopped = now
+
+in_held : (form : Form) (asked : Option ℕ) (line behind : List ℕ) (old new : Reading) → (new.key ≡ old.key) × ((new ≡ old) ⊎ HasStopped new) → IsIn form asked line behind old
+    → IsIn form asked line behind new
+in_held form asked line behind old new h x = record {
+  before = x.before;
+  field = x.field;
+  named = x.named;
+  there = x.there;
+  kept = subst (λ k. IsKeyOf k x.named) (sym h.0) x.kept;
+  came = λ counted. came_held old new (value_in form x.field) h.1 (x.came counted);
+  stopped = λ lost. stopped_held old new h.1 (x.stopped (subst HasLostKey h.0 lost));
+}
+
+late_held : (asked : Option ℕ) (line : List ℕ) (old new : Reading) → (new.key ≡ old.key) × ((new ≡ old) ⊎ HasStopped new) → IsLate asked line old → IsLate asked line new
+late_held asked line old new h x = record {
+  first = x.first;
+  rest = x.rest;
+  split = x.split;
+  missing = x.missing;
+  long = x.long;
+  lost = subst HasLostKey (sym h.0) x.lost;
+  stopped = stopped_held old new h.1 x.stopped;
+}
+
+in_stretch : (s : Stretch) (form : Form) (asked : Option ℕ) (line : List ℕ) (old new : Reading) → (new.key ≡ old.key) × ((new ≡ old) ⊎ HasStopped new) → InStretch s form asked line old
+    → InStretch s form asked line new
+in_stretch stretch.LastValue form None line old new h x = in_held form None line [] old new h x
+in_stretch stretch.LastValue form (Some number) line old new h x = absurd x
+in_stretch stretch.Value form None line old new h x = absurd x
+in_stretch stretch.Value form (Some number) line old new h (inl x) = inl (in_held form (Some number) line [] old new h x)
+in_stretch stretch.Value form (Some number) line old new h (inr late) = inr (late_held (Some number) line old new h late)
+in_stretch stretch.Behind form None line old new h x = absurd x
+in_stretch stretch.Behind form (Some number) line old new h (inl x) = inl (x.0, in_held form (Some number) line (0x09 ∷ x.0) old new h x.1)
+in_stretch stretch.Behind form (Some number) line old new h (inr late) = inr (late_held (Some number) line old new h late)
+
+pub stretch_held : (s : Stretch) (form : Form) (asked : Option ℕ) (line : List ℕ) (old new : Reading)
+    → (new ≡ old) ⊎ (new ≡ record old { answer = Some (answer.Checked found.OutOfMemory) }) → InStretch s form asked line old → InStretch s form asked line new
+stretch_held s form asked line old new kept was = in_stretch s form asked line old new (same_held old new kept) was
+
+named_held : (form : Form) (asked : Option ℕ) (line : List ℕ) (old new : Reading) → (new.key ≡ old.key) × ((new ≡ old) ⊎ HasStopped new) → IsNamed form asked line old → IsNamed form asked line new
+named_held form asked line old new h x = record {
+  field = x.field;
+  named = x.named;
+  is_value = x.is_value;
+  kept = subst (λ k. IsKeyOf k x.named) (sym h.0) x.kept;
+  came = λ counted. came_held old new (value_in form x.field) h.1 (x.came counted);
+}
+
+pub piece_held : (lines : Lines) (line piece : List ℕ) (old new : Reading) → (new ≡ old) ⊎ (new ≡ record old { answer = Some (answer.Checked found.OutOfMemory) })
+    → PieceEnds lines line piece old → PieceEnds lines line piece new
+piece_held lines line piece old new kept x = record { bare = x.bare; is_bare = x.is_bare; named = named_held lines.form lines.field (line ++ x.bare) old new (same_held old new kept) x.named }
 
 -- ---- the end of a line
 
@@ -404,13 +653,13 @@ late_beside before behind first key (inr more) less long lost =
     let all = length-append more.0 behind in
     record { named = Some (more.0 ++ behind); is_key = inl (more.0, more.1, refl); kept = inr (lost, omega (arith, all, size, less, long)) }
 
-late_there : (number : ℕ) (line : List ℕ) (key : Key) (x : IsLate (Some number) line key) → Cut (number - 1) line → IsNamed (Some number) line key
-late_there number line key x cut =
+late_there : (form : Form) (number : ℕ) (line : List ℕ) (r : Reading) (x : IsLate (Some number) line r) → Cut (number - 1) line → IsNamed form (Some number) line r
+late_there form number line r x cut =
     let f = first_of cut.rest in
     let missing = x.missing in
     let tabs = cut.tabs in
     let fewer : tabs_in x.first < tabs_in cut.before = omega (arith, missing, tabs) in
-    let y = late_beside cut.before f.behind x.first key cut.begins (longer_front line x.first x.rest cut.before cut.rest x.split cut.split fewer) x.long x.lost in
+    let y = late_beside cut.before f.behind x.first r.key cut.begins (longer_front line x.first x.rest cut.before cut.rest x.split cut.split fewer) x.long x.lost in
     record {
       field = f.field;
       named = y.named;
@@ -426,30 +675,31 @@ late_there number line key x cut =
             },
           );
       kept = y.kept;
+      came = λ counted. inr x.stopped;
     }
 
-late_named : (number : ℕ) (line : List ℕ) (key : Key) → IsLate (Some number) line key → IsNamed (Some number) line key
-late_named number line key x = elim (cases_lt (tabs_in line) (number - 1)) [
+late_named : (form : Form) (number : ℕ) (line : List ℕ) (r : Reading) → IsLate (Some number) line r → IsNamed form (Some number) line r
+late_named form number line r x = elim (cases_lt (tabs_in line) (number - 1)) [
   | inl less ↦
       let size : length line ≡ length x.first + length x.rest = ap length x.split ∙ length-append x.first x.rest in
       let all = if_size line in
       let long = x.long in
-      record { field = []; named = key_if line; is_value = inr (less, refl, refl); kept = inr (x.lost, omega (arith, all, size, long)) }
-  | inr more ↦ late_there number line key x (cut_at line (number - 1) more)
+      record { field = []; named = key_if line; is_value = inr (less, refl, refl); kept = inr (x.lost, omega (arith, all, size, long)); came = λ counted. inr x.stopped }
+  | inr more ↦ late_there form number line r x (cut_at line (number - 1) more)
 ]
 
-in_named : (asked : Option ℕ) (line behind : List ℕ) (key : Key) → IsIn asked line behind key → IsNamed asked line key
-in_named asked line behind key x = record { field = x.field; named = x.named; is_value = inl (x.before, behind, x.there); kept = x.kept }
+in_named : (form : Form) (asked : Option ℕ) (line behind : List ℕ) (r : Reading) → IsIn form asked line behind r → IsNamed form asked line r
+in_named form asked line behind r x = record { field = x.field; named = x.named; is_value = inl (x.before, behind, x.there); kept = x.kept; came = x.came }
 
-pub stretch_named : (s : Stretch) (asked : Option ℕ) (line : List ℕ) (key : Key) → InStretch s asked line key → IsNamed asked line key
-stretch_named stretch.LastValue None line key x = in_named None line [] key x
-stretch_named stretch.LastValue (Some number) line key x = absurd x
-stretch_named stretch.Value None line key x = absurd x
-stretch_named stretch.Value (Some number) line key (inl x) = in_named (Some number) line [] key x
-stretch_named stretch.Value (Some number) line key (inr late) = late_named number line key late
-stretch_named stretch.Behind None line key x = absurd x
-stretch_named stretch.Behind (Some number) line key (inl x) = in_named (Some number) line (0x09 ∷ x.0) key x.1
-stretch_named stretch.Behind (Some number) line key (inr late) = late_named number line key late
+pub stretch_named : (s : Stretch) (form : Form) (asked : Option ℕ) (line : List ℕ) (r : Reading) → InStretch s form asked line r → IsNamed form asked line r
+stretch_named stretch.LastValue form None line r x = in_named form None line [] r x
+stretch_named stretch.LastValue form (Some number) line r x = absurd x
+stretch_named stretch.Value form None line r x = absurd x
+stretch_named stretch.Value form (Some number) line r (inl x) = in_named form (Some number) line [] r x
+stretch_named stretch.Value form (Some number) line r (inr late) = late_named form number line r late
+stretch_named stretch.Behind form None line r x = absurd x
+stretch_named stretch.Behind form (Some number) line r (inl x) = in_named form (Some number) line (0x09 ∷ x.0) r x.1
+stretch_named stretch.Behind form (Some number) line r (inr late) = late_named form number line r late
 
 -- ---- the carriage return at its end
 
@@ -482,8 +732,8 @@ bare_both lines line piece bare (inr same) some =
           ],
     )
 
-pub line_named : (lines : Lines) (line piece : List ℕ) (key : Key) → PieceEnds lines line piece key → ((front : List ℕ) → line ≡ front ++ (0x0D ∷ []) → piece ≡ [] → ⊥) → LineNamed lines (line ++ piece) key
-line_named lines line piece key x some = record { bare = line ++ x.bare; is_bare = bare_both lines line piece x.bare x.is_bare some; named = x.named }
+pub line_named : (lines : Lines) (line piece : List ℕ) (r : Reading) → PieceEnds lines line piece r → ((front : List ℕ) → line ≡ front ++ (0x0D ∷ []) → piece ≡ [] → ⊥) → LineNamed lines (line ++ piece) r
+line_named lines line piece r x some = record { bare = line ++ x.bare; is_bare = bare_both lines line piece x.bare x.is_bare some; named = x.named }
 
 -- where a line end waits, or all of what is left is taken, a byte of it comes behind a carriage return
 pub some_before : (end : ℕ) (waiting : List ℕ) (count : ℕ) → IsBefore end waiting count → GoesOn end waiting → take count waiting ≡ [] → ⊥
@@ -514,3 +764,45 @@ goes_later end old new took on = (on.0, on.1 ++ took.came, sym took.split ∙ ap
 
 pub none_ends : (c : ℕ) (front : List ℕ) → [] ≡ front ++ (c ∷ []) → ⊥
 none_ends c front is = let size = length-append front (c ∷ []) in let empty = ap length is in absurd (omega (arith, size, empty))
+
+-- ---- the backslash at its end
+
+-- one that is taken is not the first of two characters that belong together
+pub apart_on : (line waiting front : List ℕ) (count : ℕ) → (length waiting ≤ count → (front : List ℕ) → waiting ≡ front ++ (0x5C ∷ []) → ⊥)
+    → (count < length waiting → (drop count waiting ≡ 0x0D ∷ []) ⊎ (drop count waiting ≡ 0x5C ∷ [])) → ((front : List ℕ) → line ≡ front ++ (0x5C ∷ []) → GoesOn 0x6E waiting)
+    → line ++ take count waiting ≡ front ++ (0x5C ∷ []) → GoesOn 0x6E (drop count waiting)
+apart_on line waiting front count clean left apart is = elim (cases_lt count (length waiting)) [
+  | inl less ↦ elim (left less) [
+    | inl last ↦ (0x0D, [], last, λ e. absurd (omega (arith, e)))
+    | inr last ↦ (0x5C, [], last, λ e. absurd (omega (arith, e)))
+  ]
+  | inr all ↦
+      let same : line ++ waiting ≡ front ++ (0x5C ∷ []) = ap (λ xs. line ++ xs) (sym (take_all count waiting all)) ∙ is in
+      elim (ends_in line waiting front 0x5C same) [
+        | inl x ↦ absurd (some_left 0x6E waiting (apart front x.1) x.0)
+        | inr x ↦ absurd (clean all x.0 x.1)
+      ]
+]
+
+pub apart_piece : (line waiting : List ℕ) (count : ℕ) → ((front : List ℕ) → line ≡ front ++ (0x5C ∷ []) → GoesOn 0x6E waiting) → IsApart line (take count waiting)
+apart_piece line waiting count apart = λ front rest ends begins.
+    let on = apart front ends in
+    let is : waiting ≡ 0x6E ∷ (rest ++ drop count waiting) = sym (take-append-drop count waiting) ∙ ap (λ xs. xs ++ drop count waiting) begins in
+    let w = on.2 in
+    let same : on.0 ≡ 0x6E = cc in
+    on.3 same
+
+pub apart_all : (line waiting : List ℕ) → ((front : List ℕ) → line ≡ front ++ (0x5C ∷ []) → GoesOn 0x6E waiting) → IsApart line waiting
+apart_all line waiting apart = λ front rest ends begins.
+    let on = apart front ends in
+    let w = on.2 in
+    let same : on.0 ≡ 0x6E = cc in
+    on.3 same
+
+pub apart_bare : (lines : Lines) (line piece bare : List ℕ) → IsBare lines piece bare → IsApart line piece → IsApart line bare
+apart_bare lines line piece bare (inl cut) apart = apart_front line bare (0x0D ∷ []) piece cut.1 apart
+apart_bare lines line piece bare (inr same) apart = subst (λ xs. IsApart line xs) (sym same.0) apart
+
+pub counted_bare : (lines : Lines) (form : Form) (text bare : List ℕ) → IsBare lines text bare → IsCounted form text → IsCounted form bare
+counted_bare lines form text bare (inl cut) counted = counted_front form bare (0x0D ∷ []) (subst (λ xs. IsCounted form xs) cut.1 counted)
+counted_bare lines form text bare (inr same) counted = subst (λ xs. IsCounted form xs) (sym same.0) counted

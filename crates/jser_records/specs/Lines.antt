@@ -1,6 +1,5 @@
 -- Records that are lines.
 use Rattle.std.specs.Prelude.{ℕ, ◌≡◌, ◌⊎◌, ◌+◌, ◌≤◌, ◌<◌, if◌then◌else◌, List, [], ◌∷◌, ◌++◌, length, Option, Some, None}
-use Rattle.jser_inputs.specs.declared.Form.{Form}
 use Rattle.jser_records.specs.declared.layout.Lines.{Lines}
 use Rattle.jser_records.specs.declared.lines.Stretch.{Stretch}
 use Rattle.jser_records.specs.declared.current.Record.{Record}
@@ -9,18 +8,13 @@ use Rattle.jser_records.specs.Arriving.{Arriving, HasNone, IsOver, Took, room_si
 use Rattle.jser_records.specs.Fields.{IsBare, IsValue}
 use Rattle.jser_records.specs.Held.{Holds, HoldsMore, Terms}
 use Rattle.jser_records.specs.Keys.{HasNoKey, IsKeyOf}
-use Rattle.jser_records.specs.Readings.{Came, IsFor, IsOfDigits, IsReady, Value, none, text_of}
+use Rattle.jser_records.specs.Readings.{Came, IsCounted, IsFor, IsReady, Value, value_in}
 use Rattle.jser_records.specs.Stretches.{IsOn, LineNamed}
-use Rattle.jser_records.specs.Texts.{behind_mark, characters_in, is_null, mark_in}
 use Rattle.jser_records.specs.Told.{Entry, HandsOn, KeyTold}
 
 -- the byte that ends a line
 abbrev pub end_of : Lines → ℕ
 end_of lines = if lines.zero then 0x00 else 0x0A
-
--- what the characters of a field are as a value
-abbrev pub value_in : Form → List ℕ → Value
-value_in form field = if is_null field then none else text_of form (mark_in form field) (characters_in form (behind_mark form field))
 
 -- This is the value of a line, which is given without its end, and its KEY.
 pub record IsOfLine (lines : Lines) (text : List ℕ) (value : Value) (key : Option (List ℕ)) : Type 0 where
@@ -30,18 +24,13 @@ pub record IsOfLine (lines : Lines) (text : List ℕ) (value : Value) (key : Opt
   pub is_field : IsValue lines.field bare field key
   pub is_value : value ≡ value_in lines.form field
 
--- a line is short enough to be taken at once, and its value is a text of digits
-pub record IsShort (lines : Lines) (text : List ℕ) : Type 0 where
-  pub short : length text + 1 < room_size
-  pub digits : IsOfDigits lines.form
-
--- its KEY is told, however long it is; and its answer is right of its value, if it is short
+-- its KEY is told, and its answer is right of its value, if that is a text of digits
 pub record AnswersLine (lines : Lines) (terms : Terms) (text : List ℕ) (entry : Entry) : Type 0 where
   pub value : Value
   pub key : Option (List ℕ)
   pub is : IsOfLine lines text value key
   pub key_told : KeyTold entry key
-  pub right : IsShort lines text → IsFor terms.rules terms.most entry.key.is_lost value entry.answer
+  pub right : IsCounted lines.form text → IsFor terms.rules terms.most entry.key.is_lost value entry.answer
 
 -- This is the record of the line at the front of some bytes, and `rest` is what is behind it: a text, and the byte that ends it.
 -- The last line of an input may have no end, and is then not empty. Both are what is handed on of it.
@@ -56,12 +45,12 @@ pub record LineOf (lines : Lines) (terms : Terms) (bytes : List ℕ) (entry : En
 
 -- ---- as it is read
 
--- the value of a line came, if it is short, and its KEY
+-- the value of a line came, if it is a text of digits, and its KEY
 pub record LineCame (lines : Lines) (text : List ℕ) (r : Reading) : Type 0 where
   pub value : Value
   pub key : Option (List ℕ)
   pub is : IsOfLine lines text value key
-  pub came : IsShort lines text → Came r value
+  pub came : IsCounted lines.form text → Came r value
   pub key_is : IsKeyOf r.key key
 
 -- the field that is the value came, and the KEY beside it
@@ -69,7 +58,7 @@ pub record FieldCame (lines : Lines) (line : List ℕ) (old new : Reading) : Typ
   pub field : List ℕ
   pub key : Option (List ℕ)
   pub is_field : IsValue lines.field line field key
-  pub came : IsReady old lines.form → IsShort lines line → Came new (value_in lines.form field)
+  pub came : IsReady old lines.form → IsCounted lines.form line → Came new (value_in lines.form field)
   pub key_is : HasNoKey old.key → IsKeyOf new.key key
 
 -- bytes of a line were taken, without a line end
@@ -97,7 +86,7 @@ pub record TakesRest (lines : Lines) (s : Stretch) (from now : Arriving) (old ne
   pub none : HasNone (end_of lines) text
   pub is : (tail ≡ end_of lines ∷ []) ⊎ ((tail ≡ []) × IsOver now)
   pub held : HoldsMore old new (text ++ tail)
-  pub ends : (line : List ℕ) → IsOn lines (end_of lines) s line from old → LineNamed lines (line ++ text) new.reading.key
+  pub ends : (line : List ℕ) → IsOn lines (end_of lines) s line from old → LineNamed lines (line ++ text) new.reading
 
 abbrev pub StretchTakes : (lines : Lines) → Stretch → (from now : Arriving) → (old new : Record) → Option Stretch → Type 0
 StretchTakes lines s from now old new (Some next) = TakesText lines s next from now old new

@@ -1,5 +1,5 @@
 -- What was found of the bytes of a record, and of the text that spells them.
-use Rattle.std.specs.Prelude.{ℕ, ◌≡◌, ◌⊎◌, ◌+◌, ◌-◌, ◌^◌, ◌≤◌, ◌<◌, min, Bool, true, false, List, [], ◌∷◌, ◌++◌, length, Option, Some, None, IfSome}
+use Rattle.std.specs.Prelude.{ℕ, ◌≡◌, ◌⊎◌, ◌+◌, ◌-◌, ◌^◌, ◌≤◌, ◌<◌, min, Bool, true, false, if◌then◌else◌, List, [], ◌∷◌, ◌++◌, length, Option, Some, None, IfSome}
 use Rattle.jser_inputs.specs.declared.Form.{Form}
 use Rattle.jser_inputs.specs.declared.Form.TheVariants as form
 use Rattle.jser_inputs.specs.declared.place.Place.TheVariants as place
@@ -16,6 +16,7 @@ use Rattle.jser_records.specs.declared.answer.Answer.TheVariants as answer
 use Rattle.jser_records.specs.declared.reading.Reading.{Reading}
 use Rattle.jser_records.specs.Keys.{HasAdded, HasNoRoom}
 use Rattle.jser_records.specs.Judged.{HasJudged, IsRead, IsSound, Judging}
+use Rattle.jser_records.specs.Texts.{behind_mark, characters_in, is_null, mark_in}
 
 -- What is answered of a record whose value is these bytes is right of them. Where a check answers, it is that of these bytes,
 -- and none with more than `most` bytes is accepted, or said to be longer where it is not.
@@ -164,8 +165,21 @@ HasCome r (text_of form mark text) = HasSpelled r form mark text
 HasCome r (cut_at at total) = r.answer ≡ Some (answer.Cut at total)
 HasCome r unknown = r.answer ≡ Some answer.NoLength
 
+-- no more of it is read: there is no memory, or the KEY is too long
+abbrev pub HasStopped : Reading → Type 0
+HasStopped r = (r.answer ≡ Some (answer.Checked found.OutOfMemory)) ⊎ ((r.answer ≡ Some answer.LongKey) × (r.key.is_lost ≡ true))
+
 abbrev pub Came : Reading → Value → Type 0
-Came r value = HasCome r value ⊎ ((r.answer ≡ Some (answer.Checked found.OutOfMemory)) ⊎ ((r.answer ≡ Some answer.LongKey) × (r.key.is_lost ≡ true)))
+Came r value = HasCome r value ⊎ HasStopped r
+
+-- the value that a field of this form is: none, or what its characters spell, behind their mark
+abbrev pub value_in : Form → List ℕ → Value
+value_in form field = if is_null field then none else text_of form (mark_in form field) (characters_in form (behind_mark form field))
+
+-- a text of digits, of no more characters than a machine counts
+pub record IsCounted (form : Form) (text : List ℕ) : Type 0 where
+  pub few : length text < 2 ^ 63
+  pub digits : IsOfDigits form
 
 -- more of its KEY came, which did not change what is answered; or the KEY is too long, and that is the answer
 abbrev pub AddsKey : (old new : Reading) → List ℕ → Type 0
@@ -176,5 +190,4 @@ AddsKey old new bytes =
 -- no character of a value in this form came so far; or it is answered why there is none
 abbrev pub IsReady : Reading → Form → Type 0
 IsReady r form =
-    ((r.answer ≡ None) × HasSpelled r form 0 [])
-    ⊎ ((r.answer ≡ Some (answer.Checked found.OutOfMemory)) ⊎ ((r.answer ≡ Some answer.LongKey) × (r.key.is_lost ≡ true)))
+    ((r.answer ≡ None) × HasSpelled r form 0 []) ⊎ HasStopped r

@@ -1,17 +1,17 @@
 //! Records that are lines of text. A line is taken whole where it fits the room for what waits, else piece after piece.
 
-ghost use Rattle.std.specs.Prelude.{◌≡◌, ◌≤◌, ◌<◌, ◌+◌, ◌^◌, ◌==◌, ◌++◌, ◌∷◌, ℕ, List, [], length, take, drop, true, false, if◌then◌else◌, Option, IfSome, OnOk, Ok, Some, None};
+ghost use Rattle.std.specs.Prelude.{◌≡◌, ◌⊎◌, ◌≤◌, ◌<◌, ◌+◌, ◌^◌, ◌==◌, ◌++◌, ◌∷◌, ℕ, List, [], length, take, drop, true, false, if◌then◌else◌, Option, IfSome, OnOk, Ok, Some, None};
 ghost use Rattle.std.specs.Io.KnownBytes.{IsAtEnd};
 ghost use Rattle.jser_inputs.specs.declared.Form.{Form as ToldForm};
 ghost use Rattle.jser_records.specs.Arriving.{HasNone, IsBefore, IsOver, room_size};
 ghost use Rattle.jser_records.specs.Fields.{IsBare};
 ghost use Rattle.jser_records.specs.Held.{Holds, HoldsMore, HoldsSame, Keeps};
-ghost use Rattle.jser_records.specs.Keys.{HasNoKey, IsKeyOf, longer_key, most_key};
+ghost use Rattle.jser_records.specs.Keys.{HasLostKey, HasNoKey, IsKeyOf, longer_key};
 ghost use Rattle.jser_records.specs.Lines.{FieldCame, LineCame, StretchTakes, TakesFirst, TakesLine, end_of};
-ghost use Rattle.jser_records.specs.Readings.{Came, HasSpelled, IsOfDigits, IsReady};
+ghost use Rattle.jser_records.specs.Readings.{Came, HasSpelled, HasStopped, IsOfDigits, IsReady};
 ghost use Rattle.jser_records.specs.Readings.{Value as ToldValue};
 ghost use Rattle.jser_records.specs.Records.{RecordsGoTo, RecordsTo};
-ghost use Rattle.jser_records.specs.Stretches.{InStretch, PieceEnds, value_stretch};
+ghost use Rattle.jser_records.specs.Stretches.{InStretch, IsApart, PieceEnds, value_stretch};
 ghost use Rattle.jser_records.specs.Texts.{behind_mark, characters_in, is_null, mark_in, mark_size};
 ghost use Rattle.jser_records.specs.declared.layout.Shape.TheVariants as Shape;
 
@@ -164,7 +164,8 @@ fn without_return(lines: Lines, line: &[u8]) -> &[u8]
 /// Takes the first bytes of a line, all of its KEY before the value among them.
 fn take_front(current: &mut Record<'_>, lines: Lines, line: &[u8]) -> Stretch
     ensures came { FieldCame lines line.now current.old.reading current.new.reading }
-    ensures on { most_key < length line.now → HasNoKey current.old.reading.key → InStretch result lines.field line.now current.new.reading.key }
+    ensures on { room_size ≤ length line.now + 1 → IsReady current.old.reading lines.form → HasNoKey current.old.reading.key
+        → InStretch result lines.form lines.field line.now current.new.reading }
     ensures held { HoldsSame current.old current.new }
     ensures keeps { Keeps current.old current.new }
 {
@@ -193,11 +194,12 @@ fn value_stretch(lines: Lines) -> Stretch
 }
 
 /// Takes what is before a value: the fields there, if there is one.
-#[tactic(auto, using(crate::proofs::KeyLemmas::key_before, crate::proofs::KeyLemmas::key_first, crate::proofs::LineLemmas::ready_keyed, crate::proofs::HeldLemmas::holds_keyed, crate::proofs::HeldLemmas::keeps_keyed))]
+#[tactic(auto, using(crate::proofs::KeyLemmas::key_before, crate::proofs::KeyLemmas::key_first, crate::proofs::StretchLemmas::stopped_keyed, crate::proofs::StretchLemmas::stopped_none, crate::proofs::LineLemmas::ready_keyed, crate::proofs::HeldLemmas::holds_keyed, crate::proofs::HeldLemmas::keeps_keyed))]
 fn take_before(current: &mut Record<'_>, parts: Parts, before: &[u8])
     requires within { parts.front ≤ length before.now }
     ensures ready { (form : ToldForm) → IsReady current.old.reading form → IsReady current.new.reading form }
     ensures key { HasNoKey current.old.reading.key → IsKeyOf current.new.reading.key (if parts.from == 0 then None else Some (take parts.front before.now)) }
+    ensures stopped { HasNoKey current.old.reading.key → HasLostKey current.new.reading.key → HasStopped current.new.reading }
     ensures held { HoldsSame current.old current.new }
     ensures keeps { Keeps current.old current.new }
 {
@@ -208,11 +210,12 @@ fn take_before(current: &mut Record<'_>, parts: Parts, before: &[u8])
 }
 
 /// Takes what is behind a value, from the TAB on. It is the first of the KEY where nothing is before the value.
-#[tactic(auto, using(crate::proofs::KeyLemmas::key_behind_first, crate::proofs::LineLemmas::came_keyed, crate::proofs::HeldLemmas::holds_keyed, crate::proofs::HeldLemmas::keeps_keyed))]
+#[tactic(auto, using(crate::proofs::KeyLemmas::key_behind_first, crate::proofs::StretchLemmas::stopped_keyed, crate::proofs::LineLemmas::came_keyed, crate::proofs::HeldLemmas::holds_keyed, crate::proofs::HeldLemmas::keeps_keyed))]
 fn take_behind(current: &mut Record<'_>, behind: &[u8], is_first: bool)
     ensures came { (value : ToldValue) → Came current.old.reading value → Came current.new.reading value }
     ensures key { 0 < length behind.now → (has : Option (List ℕ)) → IsKeyOf current.old.reading.key has
         → IsKeyOf current.new.reading.key (longer_key has (drop (if is_first then 1 else 0) behind.now)) }
+    ensures stopped { 0 < length behind.now → HasLostKey current.new.reading.key → HasStopped current.new.reading }
     ensures held { HoldsSame current.old current.new }
     ensures keeps { Keeps current.old current.new }
 {
@@ -357,6 +360,8 @@ fn whole_count(waiting: &[u8]) -> usize
     ensures within { result ≤ length waiting.now }
     ensures most { length waiting.now ≤ result + 1 }
     ensures clean { length waiting.now ≤ result → (front : List ℕ) → waiting.now ≡ front ++ (0x0D ∷ []) → ⊥ }
+    ensures marked { length waiting.now ≤ result → (front : List ℕ) → waiting.now ≡ front ++ (0x5C ∷ []) → ⊥ }
+    ensures left { result < length waiting.now → (drop result waiting.now ≡ 0x0D ∷ []) ⊎ (drop result waiting.now ≡ 0x5C ∷ []) }
 {
     match waiting {
         [front @ .., b'\r'] | [front @ .., b'\\'] => front.len(),
@@ -366,7 +371,7 @@ fn whole_count(waiting: &[u8]) -> usize
 
 /// Begins a long line by its first bytes.
 fn begin_line(current: &mut Record<'_>, lines: Lines, front: &[u8]) -> Stretch
-    ensures on { most_key < length front.now → InStretch result lines.field front.now current.new.reading.key }
+    ensures on { room_size ≤ length front.now + 1 → InStretch result lines.form lines.field front.now current.new.reading }
     ensures keeps { Keeps current.old current.new }
     ensures held { Holds current.new front.now }
 {
@@ -377,8 +382,8 @@ fn begin_line(current: &mut Record<'_>, lines: Lines, front: &[u8]) -> Stretch
 
 /// Takes one more piece of a long line.
 fn take_piece(current: &mut Record<'_>, lines: Lines, stretch: Stretch, piece: &[u8]) -> Stretch
-    ensures on { (line : List ℕ) → most_key < length line → InStretch stretch lines.field line current.old.reading.key
-        → InStretch result lines.field (line ++ piece.now) current.new.reading.key }
+    ensures on { (line : List ℕ) → room_size ≤ length line + 1 → IsApart line piece.now → InStretch stretch lines.form lines.field line current.old.reading
+        → InStretch result lines.form lines.field (line ++ piece.now) current.new.reading }
     ensures keeps { Keeps current.old current.new }
     ensures held { HoldsMore current.old current.new piece.now }
 {
@@ -388,8 +393,8 @@ fn take_piece(current: &mut Record<'_>, lines: Lines, stretch: Stretch, piece: &
 
 /// Takes the last piece of a long line, without its end.
 fn take_last_piece(current: &mut Record<'_>, lines: Lines, stretch: Stretch, piece: &[u8])
-    ensures ends { (line : List ℕ) → most_key < length line → InStretch stretch lines.field line current.old.reading.key
-        → PieceEnds lines line piece.now current.new.reading.key }
+    ensures ends { (line : List ℕ) → room_size ≤ length line + 1 → IsApart line piece.now → InStretch stretch lines.form lines.field line current.old.reading
+        → PieceEnds lines line piece.now current.new.reading }
     ensures keeps { Keeps current.old current.new }
     ensures held { HoldsMore current.old current.new piece.now }
 {
@@ -400,8 +405,8 @@ fn take_last_piece(current: &mut Record<'_>, lines: Lines, stretch: Stretch, pie
 /// Takes the text of a piece.
 #[tactic(auto, using(crate::proofs::HeldLemmas::holds_keyed, crate::proofs::HeldLemmas::keeps_keyed))]
 fn take_text(current: &mut Record<'_>, form: Form, stretch: Stretch, text: &[u8]) -> Stretch
-    ensures on { (asked : Option ℕ) (line : List ℕ) → most_key < length line → InStretch stretch asked line current.old.reading.key
-        → InStretch result asked (line ++ text.now) current.new.reading.key }
+    ensures on { (asked : Option ℕ) (line : List ℕ) → room_size ≤ length line + 1 → IsApart line text.now → InStretch stretch form asked line current.old.reading
+        → InStretch result form asked (line ++ text.now) current.new.reading }
     ensures keeps { Keeps current.old current.new }
     ensures held { HoldsSame current.old current.new }
 {
@@ -421,8 +426,8 @@ fn take_text(current: &mut Record<'_>, form: Form, stretch: Stretch, text: &[u8]
 /// Takes the text of a piece, in the value, which is the last field.
 #[tactic(auto, using(crate::proofs::HeldLemmas::holds_refused, crate::proofs::HeldLemmas::keeps_rules))]
 fn take_last_value(current: &mut Record<'_>, form: Form, text: &[u8])
-    ensures on { (asked : Option ℕ) (line : List ℕ) → most_key < length line → InStretch Stretch.LastValue asked line current.old.reading.key
-        → InStretch Stretch.LastValue asked (line ++ text.now) current.new.reading.key }
+    ensures on { (asked : Option ℕ) (line : List ℕ) → room_size ≤ length line + 1 → IsApart line text.now → InStretch Stretch.LastValue form asked line current.old.reading
+        → InStretch Stretch.LastValue form asked (line ++ text.now) current.new.reading }
     ensures keeps { Keeps current.old current.new }
     ensures held { HoldsSame current.old current.new }
 {
@@ -436,8 +441,8 @@ fn take_last_value(current: &mut Record<'_>, form: Form, text: &[u8])
 
 /// Takes the text of a piece, in the value, which another field may follow.
 fn take_value(current: &mut Record<'_>, form: Form, text: &[u8]) -> Stretch
-    ensures on { (asked : Option ℕ) (line : List ℕ) → InStretch Stretch.Value asked line current.old.reading.key
-        → InStretch result asked (line ++ text.now) current.new.reading.key }
+    ensures on { (asked : Option ℕ) (line : List ℕ) → room_size ≤ length line + 1 → IsApart line text.now → InStretch Stretch.Value form asked line current.old.reading
+        → InStretch result form asked (line ++ text.now) current.new.reading }
     ensures keeps { Keeps current.old current.new }
     ensures held { HoldsSame current.old current.new }
 {

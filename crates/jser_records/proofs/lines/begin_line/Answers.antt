@@ -1,6 +1,7 @@
-use Rattle.std.proofs.Common.{[], subst, sym}
+use Rattle.std.proofs.Common.{[], inl, subst, sym}
 use Rattle.jser_records.specs.Keys.{HasNoKey}
 use Rattle.jser_records.proofs.FrameLemmas.{held_key}
+use Rattle.jser_records.proofs.LineLemmas.{ready_held}
 use Rattle.jser_records.proofs.lines.begin_line.Goals as goal
 
 pub returns-clause-held : goal.returns-clause-held
@@ -8,4 +9,7 @@ returns-clause-held c = c.take_front.ensures.held c.args.front.now (c.hold.ensur
 
 pub returns-clause-on : goal.returns-clause-on
 returns-clause-on c = λ long.
-    c.take_front.ensures.on long (subst HasNoKey (sym (held_key c.begin.new.self.reading c.hold.new.self.reading c.hold.ensures.kept)) c.begin.ensures.key)
+    let begun = c.begin.new.self.reading in
+    let mid = c.hold.new.self.reading in
+    c.take_front.ensures.on long (ready_held begun mid c.args.lines.form c.hold.ensures.kept (inl (c.begin.ensures.open, c.begin.ensures.spelled)))
+    (subst HasNoKey (sym (held_key begun mid c.hold.ensures.kept)) c.begin.ensures.key)

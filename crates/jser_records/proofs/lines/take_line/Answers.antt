@@ -1,6 +1,7 @@
 use Rattle.std.proofs.Common.{[], ◌++◌, refl, subst, sym, ◌∙◌, arith}
 use Rattle.jser_records.specs.Keys.{HasNoKey}
-use Rattle.jser_records.specs.Lines.{FieldCame, value_in}
+use Rattle.jser_records.specs.Lines.{FieldCame}
+use Rattle.jser_records.specs.Readings.{value_in}
 use Rattle.jser_records.proofs.FrameLemmas.{held_key}
 use Rattle.jser_records.proofs.LineLemmas.{ready_begun}
 use Rattle.jser_records.proofs.lines.take_line.Goals as goal
@@ -18,9 +19,9 @@ returns-clause-came c =
       key = f.key;
       is = record { bare = bare; is_bare = c.without_return.ensures.bare; field = f.field; is_field = f.is_field; is_value = refl };
       came =
-          λ short.
+          λ counted.
           f.came (ready_begun begun mid last form c.begin.ensures.open c.begin.ensures.spelled c.hold.ensures.kept c.hold-2.ensures.kept)
-          (record { short = let within = c.without_return.ensures.within in let few = short.short in omega (arith, within, few); digits = short.digits });
+          (record { few = let within = c.without_return.ensures.within in let all = counted.few in omega (arith, within, all); digits = counted.digits });
       key_is = f.key_is (subst HasNoKey (sym (held_key mid last c.hold-2.ensures.kept ∙ held_key begun mid c.hold.ensures.kept)) c.begin.ensures.key);
     }
 
