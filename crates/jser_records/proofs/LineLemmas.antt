@@ -7,6 +7,8 @@ use Rattle.std.specs.Io.KnownBytes.{IsAtEnd}
 use Rattle.jser_prim.specs.Outgoing.{SinkState}
 use Rattle.jser_inputs.specs.declared.Form.{Form}
 use Rattle.jser_scan.specs.declared.Found.TheVariants as found
+use Rattle.jser_scan.specs.declared.Rules.{Rules}
+use Rattle.jser_records.specs.declared.answer.Answer.{Answer}
 use Rattle.jser_records.specs.declared.answer.Answer.TheVariants as answer
 use Rattle.jser_records.specs.declared.clerk.Clerk.{Clerk}
 use Rattle.jser_records.specs.declared.key.Key.{Key}
@@ -19,9 +21,9 @@ use Rattle.jser_records.specs.declared.reading.Reading.{Reading}
 use Rattle.jser_records.specs.Arriving.{Arriving, HasNone, IsBefore, IsOver, Took, room_size}
 use Rattle.jser_records.specs.Fields.{AreParts, key_of, part_of}
 use Rattle.jser_records.specs.Held.{Holds, HoldsMore, Terms}
-use Rattle.jser_records.specs.Keys.{HasNoKey, IsKeyOf}
+use Rattle.jser_records.specs.Keys.{HasLostKey, HasNoKey, IsKeyOf, KeepsKey}
 use Rattle.jser_records.specs.Lines.{FieldCame, LineCame, TakesFirst, TakesLine, TakesRest, TakesText, end_of}
-use Rattle.jser_records.specs.Readings.{AddsKey, Came, HasCome, HasSpelled, IsCounted, IsFor, IsOfDigits, IsReady, Value, none, plain, text_of, cut_at, unknown, value_in}
+use Rattle.jser_records.specs.Readings.{AddsKey, Came, HasCome, HasSpelled, HasStopped, IsCounted, IsFor, IsOfDigits, IsReady, Value, none, plain, text_of, cut_at, unknown, value_in}
 use Rattle.jser_records.specs.Records.{RecordsGo}
 use Rattle.jser_records.specs.Stretches.{GoesOn, InStretch, IsApart, IsOn, LineNamed, PieceEnds}
 use Rattle.jser_records.specs.Texts.{behind_mark, characters_in, is_null, mark_in}
@@ -219,6 +221,7 @@ named_came lines text r x = record {
   is = record { bare = x.bare; is_bare = x.is_bare; field = x.named.field; is_field = x.named.is_value; is_value = refl };
   came = λ counted. x.named.came (counted_bare lines lines.form text x.bare x.is_bare counted);
   key_is = x.named.kept;
+  stopped = x.named.stopped;
 }
 
 -- a line is its first bytes and the rest
@@ -244,6 +247,23 @@ line_is : (end : ℕ) (text tail rest : List ℕ) (now : Arriving) → (tail ≡
 line_is end text tail rest now (inl stops) over = inl stops
 line_is end text tail rest now (inr (clean, some, ends)) over = inr (clean, some, over ends)
 
+-- where no more is read, no value is answered
+no_value : (rules : Rules) (most : ℕ) (is_lost : Bool) (a : Answer) → IsFor rules most is_lost none a → IsFor rules most is_lost unknown a
+    → (a ≡ answer.LongKey) ⊎ (a ≡ answer.Checked found.OutOfMemory)
+no_value rules most is_lost a (inl null) (inl length) = absurd (cc)
+no_value rules most is_lost a (inl null) (inr (inl out)) = inr out
+no_value rules most is_lost a (inl null) (inr (inr long)) = inl long.0
+no_value rules most is_lost a (inr (inl out)) other = inr out
+no_value rules most is_lost a (inr (inr long)) other = inl long.0
+
+lost_told : (r : Reading) (entry : Entry) → KeepsKey r.key entry.key entry.answer → (HasLostKey r.key → HasStopped r)
+    → ((value : Value) → Came r value → IsFor r.judge.rules r.most entry.key.is_lost value entry.answer) → HasLostKey entry.key
+    → (entry.answer ≡ answer.LongKey) ⊎ (entry.answer ≡ answer.Checked found.OutOfMemory)
+lost_told r entry (inr out) stopped right lost = inr out.1
+lost_told r entry (inl same) stopped right lost =
+    let no_more = stopped (subst HasLostKey same lost) in
+    no_value r.judge.rules r.most entry.key.is_lost entry.answer (right none (inr no_more)) (right unknown (inr no_more))
+
 -- a record ended whose bytes are a line
 pub line_ended : (lines : Lines) (old last new : Clerk) (from now : Arriving) (p q r s t u : SinkState) (passed : Bool) → Quiet old last p q s t
     → TakesLine lines from now last.current → Closes last new q r t u passed → RecordsGo (shape.Lines lines) at_line at_line old new from now p r s u
@@ -264,6 +284,7 @@ line_ended lines old last new from now p q r s t u passed quiet x closes =
               key = x.came.key;
               is = x.came.is;
               key_told = told_key last.current.reading.key entry x.came.key x.came.key_is closes.key;
+              lost_told = lost_told last.current.reading entry closes.key x.came.stopped closes.right;
               right =
                   λ counted.
                   subst (λ (t : Terms). IsFor t.rules t.most entry.key.is_lost x.came.value entry.answer) quiet.keeps (closes.right x.came.value (x.came.came counted));
@@ -338,6 +359,6 @@ part_came lines line value parts old mid next last is ready null text kept key m
 -- and its KEY
 pub field_came : (lines : Lines) (line : List ℕ) (parts : Parts) (old last : Reading) → AreParts lines.field line parts
     → (IsReady old lines.form → IsCounted lines.form line → Came last (value_in lines.form (part_of line parts))) → (HasNoKey old.key → IsKeyOf last.key (key_of line parts))
-    → FieldCame lines line old last
-field_came lines line parts old last are came named =
-    record { field = part_of line parts; key = key_of line parts; is_field = parts_value lines.field line parts are; came = came; key_is = named }
+    → (HasNoKey old.key → HasLostKey last.key → HasStopped last) → FieldCame lines line old last
+field_came lines line parts old last are came named stopped =
+    record { field = part_of line parts; key = key_of line parts; is_field = parts_value lines.field line parts are; came = came; key_is = named; stopped = stopped }

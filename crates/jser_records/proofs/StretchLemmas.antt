@@ -558,6 +558,7 @@ named_held form asked line old new h x = record {
   is_value = x.is_value;
   kept = subst (λ k. IsKeyOf k x.named) (sym h.0) x.kept;
   came = λ counted. came_held old new (value_in form x.field) h.1 (x.came counted);
+  stopped = λ lost. stopped_held old new h.1 (x.stopped (subst HasLostKey h.0 lost));
 }
 
 pub piece_held : (lines : Lines) (line piece : List ℕ) (old new : Reading) → (new ≡ old) ⊎ (new ≡ record old { answer = Some (answer.Checked found.OutOfMemory) })
@@ -676,6 +677,7 @@ late_there form number line r x cut =
           );
       kept = y.kept;
       came = λ counted. inr x.stopped;
+      stopped = λ lost. x.stopped;
     }
 
 late_named : (form : Form) (number : ℕ) (line : List ℕ) (r : Reading) → IsLate (Some number) line r → IsNamed form (Some number) line r
@@ -684,12 +686,12 @@ late_named form number line r x = elim (cases_lt (tabs_in line) (number - 1)) [
       let size : length line ≡ length x.first + length x.rest = ap length x.split ∙ length-append x.first x.rest in
       let all = if_size line in
       let long = x.long in
-      record { field = []; named = key_if line; is_value = inr (less, refl, refl); kept = inr (x.lost, omega (arith, all, size, long)); came = λ counted. inr x.stopped }
+      record { field = []; named = key_if line; is_value = inr (less, refl, refl); kept = inr (x.lost, omega (arith, all, size, long)); came = λ counted. inr x.stopped; stopped = λ lost. x.stopped }
   | inr more ↦ late_there form number line r x (cut_at line (number - 1) more)
 ]
 
 in_named : (form : Form) (asked : Option ℕ) (line behind : List ℕ) (r : Reading) → IsIn form asked line behind r → IsNamed form asked line r
-in_named form asked line behind r x = record { field = x.field; named = x.named; is_value = inl (x.before, behind, x.there); kept = x.kept; came = x.came }
+in_named form asked line behind r x = record { field = x.field; named = x.named; is_value = inl (x.before, behind, x.there); kept = x.kept; came = x.came; stopped = x.stopped }
 
 pub stretch_named : (s : Stretch) (form : Form) (asked : Option ℕ) (line : List ℕ) (r : Reading) → InStretch s form asked line r → IsNamed form asked line r
 stretch_named stretch.LastValue form None line r x = in_named form None line [] r x

@@ -1,5 +1,7 @@
 -- Records that are lines.
 use Rattle.std.specs.Prelude.{ℕ, ◌≡◌, ◌⊎◌, ◌+◌, ◌≤◌, ◌<◌, if◌then◌else◌, List, [], ◌∷◌, ◌++◌, length, Option, Some, None}
+use Rattle.jser_scan.specs.declared.Found.TheVariants as found
+use Rattle.jser_records.specs.declared.answer.Answer.TheVariants as answer
 use Rattle.jser_records.specs.declared.layout.Lines.{Lines}
 use Rattle.jser_records.specs.declared.lines.Stretch.{Stretch}
 use Rattle.jser_records.specs.declared.current.Record.{Record}
@@ -7,8 +9,8 @@ use Rattle.jser_records.specs.declared.reading.Reading.{Reading}
 use Rattle.jser_records.specs.Arriving.{Arriving, HasNone, IsOver, Took, room_size}
 use Rattle.jser_records.specs.Fields.{IsBare, IsValue}
 use Rattle.jser_records.specs.Held.{Holds, HoldsMore, Terms}
-use Rattle.jser_records.specs.Keys.{HasNoKey, IsKeyOf}
-use Rattle.jser_records.specs.Readings.{Came, IsCounted, IsFor, IsReady, Value, value_in}
+use Rattle.jser_records.specs.Keys.{HasLostKey, HasNoKey, IsKeyOf}
+use Rattle.jser_records.specs.Readings.{Came, HasStopped, IsCounted, IsFor, IsReady, Value, value_in}
 use Rattle.jser_records.specs.Stretches.{IsOn, LineNamed}
 use Rattle.jser_records.specs.Told.{Entry, HandsOn, KeyTold}
 
@@ -24,12 +26,13 @@ pub record IsOfLine (lines : Lines) (text : List ℕ) (value : Value) (key : Opt
   pub is_field : IsValue lines.field bare field key
   pub is_value : value ≡ value_in lines.form field
 
--- its KEY is told, and its answer is right of its value, if that is a text of digits
+-- Its KEY is told, and its answer is right of its value, if that is a text of digits. Where the KEY is too long, that is the answer.
 pub record AnswersLine (lines : Lines) (terms : Terms) (text : List ℕ) (entry : Entry) : Type 0 where
   pub value : Value
   pub key : Option (List ℕ)
   pub is : IsOfLine lines text value key
   pub key_told : KeyTold entry key
+  pub lost_told : HasLostKey entry.key → (entry.answer ≡ answer.LongKey) ⊎ (entry.answer ≡ answer.Checked found.OutOfMemory)
   pub right : IsCounted lines.form text → IsFor terms.rules terms.most entry.key.is_lost value entry.answer
 
 -- This is the record of the line at the front of some bytes, and `rest` is what is behind it: a text, and the byte that ends it.
@@ -52,6 +55,7 @@ pub record LineCame (lines : Lines) (text : List ℕ) (r : Reading) : Type 0 whe
   pub is : IsOfLine lines text value key
   pub came : IsCounted lines.form text → Came r value
   pub key_is : IsKeyOf r.key key
+  pub stopped : HasLostKey r.key → HasStopped r
 
 -- the field that is the value came, and the KEY beside it
 pub record FieldCame (lines : Lines) (line : List ℕ) (old new : Reading) : Type 0 where
@@ -60,6 +64,7 @@ pub record FieldCame (lines : Lines) (line : List ℕ) (old new : Reading) : Typ
   pub is_field : IsValue lines.field line field key
   pub came : IsReady old lines.form → IsCounted lines.form line → Came new (value_in lines.form field)
   pub key_is : HasNoKey old.key → IsKeyOf new.key key
+  pub stopped : HasNoKey old.key → HasLostKey new.key → HasStopped new
 
 -- bytes of a line were taken, without a line end
 pub record TakesText (lines : Lines) (s next : Stretch) (from now : Arriving) (old new : Record) : Type 0 where

@@ -53,6 +53,7 @@ pub record IsNamed (form : Form) (asked : Option ℕ) (line : List ℕ) (r : Rea
   pub is_value : IsValue asked line field named
   pub kept : IsKeyOf r.key named
   pub came : IsCounted form line → Came r (value_in form field)
+  pub stopped : HasLostKey r.key → HasStopped r
 
 pub record LineNamed (lines : Lines) (text : List ℕ) (r : Reading) : Type 0 where
   pub bare : List ℕ

@@ -1,7 +1,7 @@
 use Rattle.std.proofs.Common.{◌≡◌, ◌==◌, ◌-◌, ◌<◌, ℕ, List, Option, Some, None, if◌then◌else◌, length, take, drop, ap, sym, subst, ◌∙◌, arith}
 use Rattle.jser_records.specs.Fields.{key_of, part_of}
 use Rattle.jser_records.specs.Keys.{HasLostKey, HasNoKey, IsKeyOf}
-use Rattle.jser_records.specs.Readings.{Came, IsCounted, IsReady, value_in}
+use Rattle.jser_records.specs.Readings.{Came, HasStopped, IsCounted, IsReady, value_in}
 use Rattle.jser_records.specs.Stretches.{InStretch}
 use Rattle.jser_records.proofs.KeyLemmas.{behind_is, key_alone, key_joined, none_left}
 use Rattle.jser_records.proofs.LineLemmas.{field_came, part_came}
@@ -53,22 +53,27 @@ came-in_default c =
     (c.take_before.ensures.ready c.args.lines.form) c.take_value_front.ensures.null c.take_value_front.ensures.text c.take_value_front.ensures.kept c.take_value_front.ensures.key
     c.take_behind.ensures.came
 
+-- whether no more is read
+stopped-in-empty : (c : goal.After-value_stretch) → HasNoKey c.args.current.now.reading.key → HasLostKey c.take_value_front.new.current.reading.key → HasStopped c.take_value_front.new.current.reading
+stopped-in-empty c none lost =
+    stopped_kept c.take_before.new.current.reading c.take_value_front.new.current.reading c.take_value_front.ensures.kept c.take_value_front.ensures.key
+    (c.take_before.ensures.stopped none (subst HasLostKey c.take_value_front.ensures.key lost))
+
 pub returns-in-empty-clause-came : goal.returns-in-empty-clause-came
 returns-in-empty-clause-came c =
     field_came c.args.lines c.args.line.now c.parts_of-parts.result c.args.current.now.reading c.take_value_front.new.current.reading c.parts_of-parts.ensures.value (came-in-empty c)
-    (key-in-empty c)
+    (key-in-empty c) (stopped-in-empty c)
 
 pub returns-in_default-clause-came : goal.returns-in_default-clause-came
 returns-in_default-clause-came c =
     field_came c.args.lines c.args.line.now c.parts_of-parts.result c.args.current.now.reading c.take_behind.new.current.reading c.parts_of-parts.ensures.value (came-in_default c)
-    (key-in_default c)
+    (key-in_default c) (λ none lost. c.take_behind.ensures.stopped c.in_default.len_at_least lost)
 
 pub returns-in-empty-clause-on : goal.returns-in-empty-clause-on
 returns-in-empty-clause-on c = λ long ready none.
     let line = c.args.line.now in
     let parts = c.parts_of-parts.result in
     let lines = c.args.lines in
-    let first = c.take_before.new.current.reading in
     let last = c.take_value_front.new.current.reading in
     let behind = c.split_at-2.result.1.now in
     let is : behind ≡ drop parts.to line =
@@ -76,8 +81,7 @@ returns-in-empty-clause-on c = λ long ready none.
     subst (λ s. InStretch s lines.form lines.field line last) (sym c.value_stretch.ensures)
     (front_in lines.form lines.field line parts last c.parts_of-parts.ensures.value (sym is ∙ none_left behind c.in-empty.len_below) (omega (arith, long)) (key-in-empty c none)
     (came-in-empty c ready)
-    (λ lost. stopped_kept first last c.take_value_front.ensures.kept c.take_value_front.ensures.key
-    (c.take_before.ensures.stopped none (subst HasLostKey c.take_value_front.ensures.key lost))))
+    (stopped-in-empty c none))
 
 pub returns-in_default-clause-on : goal.returns-in_default-clause-on
 returns-in_default-clause-on c = λ long ready none.

@@ -14,6 +14,7 @@ returns-clause-came c =
     let mid = c.hold.new.self.reading in
     let last = c.hold-2.new.self.reading in
     let f : FieldCame c.args.lines bare last c.take_front.new.current.reading = c.take_front.ensures.came in
+    let no_key : HasNoKey last.key = subst HasNoKey (sym (held_key mid last c.hold-2.ensures.kept ∙ held_key begun mid c.hold.ensures.kept)) c.begin.ensures.key in
     record {
       value = value_in form f.field;
       key = f.key;
@@ -22,7 +23,8 @@ returns-clause-came c =
           λ counted.
           f.came (ready_begun begun mid last form c.begin.ensures.open c.begin.ensures.spelled c.hold.ensures.kept c.hold-2.ensures.kept)
           (record { few = let within = c.without_return.ensures.within in let all = counted.few in omega (arith, within, all); digits = counted.digits });
-      key_is = f.key_is (subst HasNoKey (sym (held_key mid last c.hold-2.ensures.kept ∙ held_key begun mid c.hold.ensures.kept)) c.begin.ensures.key);
+      key_is = f.key_is no_key;
+      stopped = f.stopped no_key;
     }
 
 pub returns-clause-held : goal.returns-clause-held
