@@ -1,0 +1,2 @@
+pub mod FewestLemmas
+pub mod BackLemmas
