@@ -6,11 +6,11 @@ use Rattle.std.proofs.lemmas.Nat.{mul-le, pow-add}
 use Rattle.std.proofs.Math.Nat.{div-mul-le_self, lt-div-mul-add, mul-mod_left, mul-div_left, one-le-pow, suc-mul, mul_assoc, mul-pos, mul-le-mul_left}
 use Rattle.jser_decimal.specs.Bigs.{below}
 use Rattle.jser_decimal.specs.Shortest.{Range, best, choice, fewest, next_is_nearer, or_else, quarter_at, range_at, reads_back}
-use Rattle.uses_decimal.specs.Laws.{EvenIsTaken, HasFewest, IsEvenOfTwo, IsNearest, LeavesNoMore, NoneIsNearer, NoneIsShorter, distance}
+use Rattle.uses_decimal.specs.Meaning.{LeavesNoMore, distance}
 
 -- ---- comparisons
 
-below_le : (ties : Bool) (a b : ℕ) → below ties a b ≡ true → a ≤ b
+pub below_le : (ties : Bool) (a b : ℕ) → below ties a b ≡ true → a ≤ b
 below_le true a b e = grind (arith, nat_tests, e)
 below_le false a b e = grind (arith, nat_tests, e)
 
@@ -18,19 +18,19 @@ pub lt_below : (ties : Bool) (a b : ℕ) → a < b → below ties a b ≡ true
 lt_below true a b e = grind (arith, nat_tests, e)
 lt_below false a b e = grind (arith, nat_tests, e)
 
-below_down : (ties : Bool) (a b c : ℕ) → below ties b c ≡ true → a ≤ b → below ties a c ≡ true
+pub below_down : (ties : Bool) (a b c : ℕ) → below ties b c ≡ true → a ≤ b → below ties a c ≡ true
 below_down true a b c e le = grind (arith, nat_tests, e, le)
 below_down false a b c e le = grind (arith, nat_tests, e, le)
 
-below_up : (ties : Bool) (a b c : ℕ) → below ties a b ≡ true → b ≤ c → below ties a c ≡ true
+pub below_up : (ties : Bool) (a b c : ℕ) → below ties a b ≡ true → b ≤ c → below ties a c ≡ true
 below_up true a b c e le = grind (arith, nat_tests, e, le)
 below_up false a b c e le = grind (arith, nat_tests, e, le)
 
-left_true : (x y : Bool) → (x && y) ≡ true → x ≡ true
+pub left_true : (x y : Bool) → (x && y) ≡ true → x ≡ true
 left_true true y e = refl
 left_true false y e = e
 
-right_true : (x y : Bool) → (x && y) ≡ true → y ≡ true
+pub right_true : (x y : Bool) → (x && y) ≡ true → y ≡ true
 right_true true y e = e
 right_true false y e = absurd (let no : false ≡ true = e in grind (arith, no))
 
@@ -233,7 +233,7 @@ multiple steps more less le =
     let a : 10 ^ more ≡ 10 ^ (more - less) * 10 ^ less = ap (λ n. 10 ^ n) (omega (arith, le)) ∙ pow-add 10 (more - less) less in
     ap (λ n. steps * n % 10 ^ less) a ∙ ap (λ n. n % 10 ^ less) (sym (mul_assoc steps (10 ^ (more - less)) (10 ^ less))) ∙ mul-mod_left (steps * 10 ^ (more - less)) (10 ^ less)
 
-has_fewest : (range : Range) → IsOrdered range → HasFewest range (fewest range 15)
+pub has_fewest : (range : Range) → IsOrdered range → (more count : ℕ) → more ≤ 15 → reads_back range (count * 10 ^ more) ≡ true → fewest range 15 % 10 ^ more ≡ 0
 has_fewest range order more count few back = from (taken range 15)
   where
     from : Taken range 15 (fewest range 15) ⊎ NoneAt range 15 → fewest range 15 % 10 ^ more ≡ 0
@@ -255,9 +255,6 @@ is_ordered least place size =
       low = mul-le-mul_left quarter (less (if size.at_edge then 1 else 2));
       high = omega (arith, some, wide);
     }
-
-pub none_is_shorter : NoneIsShorter
-none_is_shorter least size = has_fewest _ (is_ordered least _ size)
 
 -- ---- the nearest
 
@@ -428,19 +425,15 @@ taken_at range more count order last back = from (taken range 15)
             absurd (last.1 (grind (arith, nat_tests, e, within)) (ap (λ n. n % 10 ^ (more + 1)) t.is ∙ multiple t.steps t.more (more + 1) (grind (arith, nat_tests, e))))
     from (inr none) = absurd (best_is range (10 ^ more) count order (power_is_some more) back (none more last.0))
 
-has_nearest : (range : Range) → IsOrdered range → IsNearest range (fewest range 15)
+pub has_nearest : (range : Range) → IsOrdered range → (more count : ℕ) → LeavesNoMore (fewest range 15) more → reads_back range (count * 10 ^ more) ≡ true
+    → distance range (fewest range 15) ≤ distance range (count * 10 ^ more)
 has_nearest range order more count last back =
     let t = taken_at range more count order last back in
     subst (λ n. distance range n ≤ distance range (count * 10 ^ more)) (sym t.is) t.best.near
 
-has_even : (range : Range) → IsOrdered range → IsEvenOfTwo range (fewest range 15)
+pub has_even : (range : Range) → IsOrdered range → (more count : ℕ) → LeavesNoMore (fewest range 15) more → reads_back range (count * 10 ^ more) ≡ true
+    → distance range (fewest range 15) ≡ distance range (count * 10 ^ more) → fewest range 15 ≢ count * 10 ^ more → fewest range 15 / 10 ^ more % 2 ≡ 0
 has_even range order more count last back same other =
     let t = taken_at range more count order last back in
     ap (λ n. n / 10 ^ more % 2) t.is ∙ ap (λ n. n % 2) (mul-div_left t.steps (power_is_some more))
     ∙ t.best.even (ap (λ n. distance range n) (sym t.is) ∙ same) (λ e. other (t.is ∙ ap (λ n. n * 10 ^ more) e))
-
-pub none_is_nearer : NoneIsNearer
-none_is_nearer least size = has_nearest _ (is_ordered least _ size)
-
-pub even_is_taken : EvenIsTaken
-even_is_taken least size = has_even _ (is_ordered least _ size)

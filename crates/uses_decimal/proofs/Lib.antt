@@ -1,2 +1,3 @@
 pub mod FewestLemmas
-pub mod BackLemmas
+pub mod PlaceLemmas
+pub mod ShortestLemmas

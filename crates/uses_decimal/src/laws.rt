@@ -1,26 +1,9 @@
 //! Laws of the definitions alone: what the shortest decimal is, however it is found.
-ghost use Rattle.uses_decimal.specs.Laws.{EvenIsTaken, NoneIsNearer, NoneIsShorter, ReadsBack};
+ghost use Rattle.uses_decimal.specs.Laws.{TakesShortest};
 
-/// No decimal with fewer digits reads back.
-#[tactic(auto, using(crate::proofs::FewestLemmas::none_is_shorter))]
-pub fn none_is_shorter()
-    ensures { NoneIsShorter }
-{}
-
-/// Of those that read back none with as few digits is nearer.
-#[tactic(auto, using(crate::proofs::FewestLemmas::none_is_nearer))]
-pub fn none_is_nearer()
-    ensures { NoneIsNearer }
-{}
-
-/// Of two that are as near the even one is taken.
-#[tactic(auto, using(crate::proofs::FewestLemmas::even_is_taken))]
-pub fn even_is_taken()
-    ensures { EvenIsTaken }
-{}
-
-/// It reads back: 17 digits are always enough.
-#[tactic(auto, using(crate::proofs::BackLemmas::back_it_reads))]
-pub fn reads_back()
-    ensures { ReadsBack }
+/// The decimal that is taken is the shortest: it reads back, and none with fewer digits does; of those with as few it is
+/// the nearest, and of two the even one.
+#[tactic(auto, using(crate::proofs::ShortestLemmas::takes_shortest))]
+pub fn takes_shortest()
+    ensures { TakesShortest }
 {}
