@@ -1,3 +1,4 @@
 pub mod FewestLemmas
 pub mod PlaceLemmas
 pub mod ShortestLemmas
+pub mod FloatLemmas

@@ -1,8 +1,34 @@
 -- The laws of the shortest decimal.
-use Rattle.std.specs.Prelude.{ℕ}
-use Rattle.jser_decimal.specs.Shortest.{range_at, shortest}
+use Rattle.std.specs.Prelude.{ℕ, ◌<◌, ◌*◌, ◌/◌, ◌%◌, ◌^◌}
+use Rattle.jser_decimal.specs.declared.Magnitude.{Magnitude}
+use Rattle.jser_decimal.specs.declared.Magnitude.TheVariants as magnitude
+use Rattle.jser_decimal.specs.Floats.{double_of, single_of, size_with}
+use Rattle.jser_decimal.specs.Shortest.{Range, range_at, shortest}
 use Rattle.uses_decimal.specs.Meaning.{IsShortest, IsSize}
 
 -- the decimal that the definition finds is the shortest, for floats of every kind
 abbrev pub TakesShortest : Type 0
 TakesShortest = (least : ℕ) (size : _) → IsSize least size.significand size.power size.at_edge → IsShortest (λ place. range_at least place size) (shortest least size)
+
+-- ---- floats by their bits
+
+-- what decimals of a float with these bits, without a sign, are measured with
+abbrev pub range_of : (least one bits place : ℕ) → Range
+range_of least one bits place = range_at least place (size_with one (bits / one) (bits % one))
+
+abbrev pub double_range : (bits place : ℕ) → Range
+double_range = range_of 1074 (2 ^ 52)
+
+abbrev pub single_range : (bits place : ℕ) → Range
+single_range = range_of 149 (2 ^ 23)
+
+abbrev pub HasShortest : (range : (place : ℕ) → Range) → Magnitude → Type 0
+HasShortest range (magnitude.Finite taken) = IsShortest range taken
+HasShortest range _ = ⊥
+
+-- each double that is finite and not zero has its shortest decimal
+abbrev pub DoublesAreShortest : Type 0
+DoublesAreShortest = (bits : ℕ) → 0 < bits % 2 ^ 63 → bits % 2 ^ 63 < 2047 * 2 ^ 52 → HasShortest (double_range (bits % 2 ^ 63)) (double_of bits).magnitude
+
+abbrev pub SinglesAreShortest : Type 0
+SinglesAreShortest = (bits : ℕ) → 0 < bits % 2 ^ 31 → bits % 2 ^ 31 < 255 * 2 ^ 23 → HasShortest (single_range (bits % 2 ^ 31)) (single_of bits).magnitude

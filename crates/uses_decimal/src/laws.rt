@@ -1,9 +1,21 @@
 //! Laws of the definitions alone: what the shortest decimal is, however it is found.
-ghost use Rattle.uses_decimal.specs.Laws.{TakesShortest};
+ghost use Rattle.uses_decimal.specs.Laws.{DoublesAreShortest, SinglesAreShortest, TakesShortest};
 
 /// The decimal that is taken is the shortest: it reads back, and none with fewer digits does; of those with as few it is
 /// the nearest, and of two the even one.
 #[tactic(auto, using(crate::proofs::ShortestLemmas::takes_shortest))]
 pub fn takes_shortest()
     ensures { TakesShortest }
+{}
+
+/// Each double that is finite and not zero has its shortest decimal.
+#[tactic(auto, using(crate::proofs::FloatLemmas::doubles_are_shortest))]
+pub fn doubles_are_shortest()
+    ensures { DoublesAreShortest }
+{}
+
+/// Each float that is finite and not zero has its shortest decimal.
+#[tactic(auto, using(crate::proofs::FloatLemmas::singles_are_shortest))]
+pub fn singles_are_shortest()
+    ensures { SinglesAreShortest }
 {}
