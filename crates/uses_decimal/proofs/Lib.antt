@@ -2,3 +2,4 @@ pub mod FewestLemmas
 pub mod PlaceLemmas
 pub mod ShortestLemmas
 pub mod FloatLemmas
+pub mod OnlyLemmas

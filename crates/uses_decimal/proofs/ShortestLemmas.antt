@@ -13,7 +13,7 @@ use Rattle.uses_decimal.specs.Meaning.{distance}
 
 -- ---- decimals of great places are numbers of units
 
-moved : (least base more place count : ℕ) → base + more ≤ place → count * unit_at least place ≡ count * 10 ^ (place - (base + more)) * 10 ^ more * unit_at least base
+pub moved : (least base more place count : ℕ) → base + more ≤ place → count * unit_at least place ≡ count * 10 ^ (place - (base + more)) * 10 ^ more * unit_at least base
 moved least base more place count le =
     let a : 10 ^ place ≡ 10 ^ (place - (base + more)) * (10 ^ base * 10 ^ more) =
     ap (λ n. 10 ^ n) (omega (arith, le)) ∙ pow-add 10 (place - (base + more)) (base + more) ∙ ap (λ n. 10 ^ (place - (base + more)) * n) (pow-add 10 base more) in

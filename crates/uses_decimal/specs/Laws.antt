@@ -1,5 +1,6 @@
 -- The laws of the shortest decimal.
-use Rattle.std.specs.Prelude.{ℕ, ◌<◌, ◌*◌, ◌/◌, ◌%◌, ◌^◌}
+use Rattle.std.specs.Prelude.{ℕ, ◌≡◌, ◌<◌, ◌*◌, ◌/◌, ◌%◌, ◌^◌}
+use Rattle.jser_decimal.specs.declared.Decimal.{Decimal}
 use Rattle.jser_decimal.specs.declared.Magnitude.{Magnitude}
 use Rattle.jser_decimal.specs.declared.Magnitude.TheVariants as magnitude
 use Rattle.jser_decimal.specs.Floats.{double_of, single_of, size_with}
@@ -9,6 +10,10 @@ use Rattle.uses_decimal.specs.Meaning.{IsShortest, IsSize}
 -- the decimal that the definition finds is the shortest, for floats of every kind
 abbrev pub TakesShortest : Type 0
 TakesShortest = (least : ℕ) (size : _) → IsSize least size.significand size.power size.at_edge → IsShortest (λ place. range_at least place size) (shortest least size)
+
+-- and no other decimal is
+abbrev pub OnlyOne : Type 0
+OnlyOne = (least : ℕ) (size : _) (one other : Decimal) → IsShortest (λ place. range_at least place size) one → IsShortest (λ place. range_at least place size) other → one ≡ other
 
 -- ---- floats by their bits
 

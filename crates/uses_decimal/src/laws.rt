@@ -1,11 +1,17 @@
 //! Laws of the definitions alone: what the shortest decimal is, however it is found.
-ghost use Rattle.uses_decimal.specs.Laws.{DoublesAreShortest, SinglesAreShortest, TakesShortest};
+ghost use Rattle.uses_decimal.specs.Laws.{DoublesAreShortest, OnlyOne, SinglesAreShortest, TakesShortest};
 
 /// The decimal that is taken is the shortest: it reads back, and none with fewer digits does; of those with as few it is
 /// the nearest, and of two the even one.
 #[tactic(auto, using(crate::proofs::ShortestLemmas::takes_shortest))]
 pub fn takes_shortest()
     ensures { TakesShortest }
+{}
+
+/// No other decimal is the shortest.
+#[tactic(auto, using(crate::proofs::OnlyLemmas::only_one))]
+pub fn only_one()
+    ensures { OnlyOne }
 {}
 
 /// Each double that is finite and not zero has its shortest decimal.
