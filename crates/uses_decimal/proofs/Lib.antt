@@ -3,3 +3,4 @@ pub mod PlaceLemmas
 pub mod ShortestLemmas
 pub mod FloatLemmas
 pub mod OnlyLemmas
+pub mod NextLemmas

@@ -1,11 +1,11 @@
 -- The laws of the shortest decimal.
-use Rattle.std.specs.Prelude.{ℕ, ◌≡◌, ◌<◌, ◌*◌, ◌/◌, ◌%◌, ◌^◌}
+use Rattle.std.specs.Prelude.{ℕ, ◌≡◌, ◌<◌, ◌+◌, ◌*◌, ◌/◌, ◌%◌, ◌^◌, true, false}
 use Rattle.jser_decimal.specs.declared.Decimal.{Decimal}
 use Rattle.jser_decimal.specs.declared.Magnitude.{Magnitude}
 use Rattle.jser_decimal.specs.declared.Magnitude.TheVariants as magnitude
 use Rattle.jser_decimal.specs.Floats.{double_of, single_of, size_with}
-use Rattle.jser_decimal.specs.Shortest.{Range, range_at, shortest}
-use Rattle.uses_decimal.specs.Meaning.{IsShortest, IsSize}
+use Rattle.jser_decimal.specs.Shortest.{Range, range_at, reads_back, shortest}
+use Rattle.uses_decimal.specs.Meaning.{IsShortest, IsSize, MeetHalfWay}
 
 -- the decimal that the definition finds is the shortest, for floats of every kind
 abbrev pub TakesShortest : Type 0
@@ -37,3 +37,12 @@ DoublesAreShortest = (bits : ℕ) → 0 < bits % 2 ^ 63 → bits % 2 ^ 63 < 2047
 
 abbrev pub SinglesAreShortest : Type 0
 SinglesAreShortest = (bits : ℕ) → 0 < bits % 2 ^ 31 → bits % 2 ^ 31 < 255 * 2 ^ 23 → HasShortest (single_range (bits % 2 ^ 31)) (single_of bits).magnitude
+
+-- Floats of bits that follow one another meet half way. So `range_at` need not be believed: it says what rounding to the nearest float means.
+abbrev pub NextMeets : Type 0
+NextMeets = (least one bits place : ℕ) → 0 < one → one % 2 ≡ 0 → MeetHalfWay (range_of least one bits place) (range_of least one (bits + 1) place)
+
+-- no decimal reads back as two floats
+abbrev pub ReadsBackAsOne : Type 0
+ReadsBackAsOne = (least one bits other place units : ℕ) → 0 < one → one % 2 ≡ 0 → bits < other
+    → reads_back (range_of least one bits place) units ≡ true → reads_back (range_of least one other place) units ≡ false

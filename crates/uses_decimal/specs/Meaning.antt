@@ -1,6 +1,6 @@
 -- What it means that a decimal is the shortest of a float, however it is found (`Double.toString`, since Java 19): of the decimals that read back
 -- those with the fewest digits are looked at, or with two where one is enough; of these it is the nearest to the float, and of two the even one.
-use Rattle.std.specs.Prelude.{ℕ, ◌≡◌, ◌≢◌, ◌<◌, ◌≤◌, ◌+◌, ◌-◌, ◌*◌, ◌/◌, ◌%◌, ◌^◌, Bool, true}
+use Rattle.std.specs.Prelude.{ℕ, ◌≡◌, ◌≢◌, ◌<◌, ◌≤◌, ◌+◌, ◌-◌, ◌*◌, ◌/◌, ◌%◌, ◌^◌, Bool, true, not}
 use Rattle.jser_decimal.specs.declared.Decimal.{Decimal}
 use Rattle.jser_decimal.specs.Shortest.{Range, reads_back}
 
@@ -38,3 +38,11 @@ pub record IsShortest (range : (place : ℕ) → Range) (taken : Decimal) : Type
   pub even : (more place count : ℕ) → LeavesNoMore taken.units more → count < 10 ^ (17 - more) → reads_back (range place) count ≡ true
       → distance (range taken.place) taken.units ≡ distance (range place) count → taken.units * (range taken.place).unit ≢ count * (range place).unit
       → taken.units / 10 ^ more % 2 ≡ 0
+
+-- ---- two floats
+
+-- The ranges of two floats meet half way between them, and that point is in one of the two.
+pub record MeetHalfWay (this next : Range) : Type 0 where
+  pub point : next.low ≡ this.high
+  pub half : this.middle + next.middle ≡ 2 * this.high
+  pub either : next.ends ≡ not this.ends

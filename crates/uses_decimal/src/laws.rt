@@ -1,5 +1,5 @@
 //! Laws of the definitions alone: what the shortest decimal is, however it is found.
-ghost use Rattle.uses_decimal.specs.Laws.{DoublesAreShortest, OnlyOne, SinglesAreShortest, TakesShortest};
+ghost use Rattle.uses_decimal.specs.Laws.{DoublesAreShortest, NextMeets, OnlyOne, ReadsBackAsOne, SinglesAreShortest, TakesShortest};
 
 /// The decimal that is taken is the shortest: it reads back, and none with fewer digits does; of those with as few it is
 /// the nearest, and of two the even one.
@@ -24,4 +24,16 @@ pub fn doubles_are_shortest()
 #[tactic(auto, using(crate::proofs::FloatLemmas::singles_are_shortest))]
 pub fn singles_are_shortest()
     ensures { SinglesAreShortest }
+{}
+
+/// Floats of bits that follow one another meet half way, and that point is in one of the two.
+#[tactic(auto, using(crate::proofs::NextLemmas::next_meets))]
+pub fn next_meets()
+    ensures { NextMeets }
+{}
+
+/// No decimal reads back as two floats.
+#[tactic(auto, using(crate::proofs::NextLemmas::reads_back_as_one))]
+pub fn reads_back_as_one()
+    ensures { ReadsBackAsOne }
 {}
