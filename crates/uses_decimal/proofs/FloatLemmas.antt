@@ -4,7 +4,7 @@ use Rattle.std.specs.Prelude.{nat_lt, ◌==◌}
 use Rattle.std.proofs.lemmas.Bool.Decides.{nat_tests}
 use Rattle.std.proofs.lemmas.Nat.{div_below, mod_below, div-add-mod'}
 use Rattle.jser_decimal.specs.Floats.{magnitude_of, size_with}
-use Rattle.uses_decimal.proofs.FewestLemmas.{left_true}
+use Rattle.uses_decimal.proofs.RangeLemmas.{left_true}
 use Rattle.uses_decimal.proofs.ShortestLemmas.{takes_shortest}
 use Rattle.uses_decimal.specs.Laws.{DoublesAreShortest, HasShortest, SinglesAreShortest, range_of}
 use Rattle.uses_decimal.specs.Meaning.{IsSize}

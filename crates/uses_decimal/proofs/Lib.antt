@@ -1,6 +1,8 @@
+pub mod RangeLemmas
+pub mod NearestLemmas
 pub mod FewestLemmas
 pub mod PlaceLemmas
 pub mod ShortestLemmas
-pub mod FloatLemmas
 pub mod OnlyLemmas
+pub mod FloatLemmas
 pub mod NextLemmas

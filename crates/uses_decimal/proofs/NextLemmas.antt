@@ -7,7 +7,7 @@ use Rattle.std.proofs.Math.Nat.{mul_assoc}
 use Rattle.jser_decimal.specs.Bigs.{below}
 use Rattle.jser_decimal.specs.Floats.{size_with}
 use Rattle.jser_decimal.specs.Shortest.{Range, quarter_at, range_at, reads_back, unit_at}
-use Rattle.uses_decimal.proofs.FewestLemmas.{IsOrdered, below_le, is_ordered, left_true, right_true}
+use Rattle.uses_decimal.proofs.RangeLemmas.{IsOrdered, below_le, inside, is_ordered, left_true, right_true}
 use Rattle.uses_decimal.specs.Laws.{NextMeets, ReadsBackAsOne, range_of}
 use Rattle.uses_decimal.specs.Meaning.{MeetHalfWay}
 
@@ -109,10 +109,6 @@ next_meets least one bits place some even = go (nat_lt (bits % one + 1) one) ref
         (exponent_next least one (bits / one) (bits % one) place last even))
 
 -- ---- one float
-
--- so many parts read back
-abbrev inside : Range → (parts : ℕ) → Bool
-inside range parts = below range.ends range.low parts && below range.ends parts range.high
 
 opposed : (ends : Bool) (a b : ℕ) → below ends a b ≡ true → below (not ends) b a ≡ true → ⊥
 opposed true a b e f = grind (arith, nat_tests, e, f)

@@ -1,5 +1,5 @@
 -- There is only one shortest decimal.
-use Rattle.std.proofs.Common.{◌≡◌, ◌<◌, ◌≤◌, ℕ, suc, zero, ◌+◌, ◌-◌, ◌*◌, ◌^◌, ◌/◌, ◌%◌, ◌∙◌, ◌&&◌, ap, sym, refl, subst, Bool, true, false, arith}
+use Rattle.std.proofs.Common.{◌≡◌, ◌<◌, ◌≤◌, ℕ, suc, zero, ◌+◌, ◌-◌, ◌*◌, ◌^◌, ◌/◌, ◌%◌, ◌∙◌, ap, sym, refl, subst, Bool, true, false, arith}
 use Rattle.std.specs.Prelude.{nat_lt, ◌==◌, ◌≢◌}
 use Rattle.std.proofs.lemmas.Bool.Decides.{nat_tests}
 use Rattle.std.proofs.lemmas.Nat.{mul-le, pow-add, div-add-mod'}
@@ -7,7 +7,7 @@ use Rattle.std.proofs.Math.Nat.{pow-le-pow_right, mul_assoc, mul-lt-mul_of_pos_r
 use Rattle.jser_decimal.specs.declared.Decimal.{Decimal}
 use Rattle.jser_decimal.specs.Bigs.{below}
 use Rattle.jser_decimal.specs.Shortest.{Range, range_at, reads_back, unit_at}
-use Rattle.uses_decimal.proofs.FewestLemmas.{IsOrdered, below_down, below_up, both_true, is_ordered, left_true, lt_below, right_true}
+use Rattle.uses_decimal.proofs.RangeLemmas.{IsOrdered, below_down, below_up, both_true, far, inside, is_ordered, le_on, left_true, lt_below, right_true, squeezed}
 use Rattle.uses_decimal.proofs.ShortestLemmas.{moved}
 use Rattle.uses_decimal.specs.Laws.{OnlyOne}
 use Rattle.uses_decimal.specs.Meaning.{IsShortest, LeavesNoMore, distance}
@@ -39,14 +39,6 @@ record IsShortestHere (range : Range) (units : ℕ) : Type 0 where
   nearest : (more count : ℕ) → LeavesNoMore units more → reads_back range (count * 10 ^ more) ≡ true → distance range units ≤ distance range (count * 10 ^ more)
   even : (more count : ℕ) → LeavesNoMore units more → reads_back range (count * 10 ^ more) ≡ true → distance range units ≡ distance range (count * 10 ^ more)
       → units ≢ count * 10 ^ more → units / 10 ^ more % 2 ≡ 0
-
--- how far parts are from the size
-abbrev far : (middle parts : ℕ) → ℕ
-far middle parts = (middle - parts) + (parts - middle)
-
--- so many parts read back
-abbrev inside : Range → (parts : ℕ) → Bool
-inside range parts = below range.ends range.low parts && below range.ends parts range.high
 
 -- parts that read back and are no farther than others
 record AsNear (range : Range) (parts other : ℕ) : Type 0 where
@@ -115,12 +107,6 @@ cancel a b unit some e = go (nat_lt a b) (nat_lt b a) refl refl
     go true y f g = absurd (let less : a * unit < b * unit = mul-lt-mul_of_pos_right (grind (arith, nat_tests, f)) some in omega (arith, less, e))
     go false true f g = absurd (let less : b * unit < a * unit = mul-lt-mul_of_pos_right (grind (arith, nat_tests, g)) some in omega (arith, less, e))
     go false false f g = grind (arith, nat_tests, f, g)
-
-le_on : (a b c : ℕ) → a ≤ b → b ≤ c → a ≤ c
-le_on a b c x y = omega (arith, x, y)
-
-squeezed : (a b c : ℕ) → a ≤ b → b ≤ c → a ≡ c → (a ≡ b) × (b ≡ c)
-squeezed a b c x y e = (omega (arith, x, y, e), omega (arith, x, y, e))
 
 here : (least : ℕ) (size : _) (taken : Decimal) → IsShortest (λ place. range_at least place size) taken → IsShortestHere (range_at least taken.place size) taken.units
 here least size taken is =

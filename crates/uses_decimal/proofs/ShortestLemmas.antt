@@ -1,12 +1,13 @@
 -- The decimal that is taken is the shortest: what the others are, wherever they stand.
-use Rattle.std.proofs.Common.{◌≡◌, ◌<◌, ◌≤◌, ℕ, suc, ◌+◌, ◌-◌, ◌*◌, ◌^◌, ◌∙◌, ◌&&◌, ap, sym, refl, subst, Bool, true, false, arith}
+use Rattle.std.proofs.Common.{◌≡◌, ◌<◌, ◌≤◌, ℕ, suc, ◌+◌, ◌-◌, ◌*◌, ◌^◌, ◌∙◌, ap, sym, refl, subst, Bool, true, false, arith}
 use Rattle.std.specs.Prelude.{nat_le}
 use Rattle.std.proofs.lemmas.Bool.Decides.{nat_tests}
 use Rattle.std.proofs.lemmas.Nat.{mul-le, pow-add}
 use Rattle.std.proofs.Math.Nat.{one-le-pow, pow-le-pow_right, mul-pos, suc-mul}
 use Rattle.jser_decimal.specs.Bigs.{below}
 use Rattle.jser_decimal.specs.Shortest.{Range, quarter_at, range_at, reads_back, shortest, unit_at}
-use Rattle.uses_decimal.proofs.FewestLemmas.{IsOrdered, below_up, both_true, has_back, has_even, has_fewest, has_nearest, is_ordered, left_true, lt_below}
+use Rattle.uses_decimal.proofs.FewestLemmas.{has_back, has_even, has_fewest, has_nearest}
+use Rattle.uses_decimal.proofs.RangeLemmas.{IsOrdered, below_up, both_true, far, inside, is_ordered, le_on, left_true, lt_below, squeezed}
 use Rattle.uses_decimal.proofs.PlaceLemmas.{at_least, at_most, narrow}
 use Rattle.uses_decimal.specs.Laws.{TakesShortest}
 use Rattle.uses_decimal.specs.Meaning.{distance}
@@ -42,14 +43,6 @@ small least base more place count few less digits =
     turned y w z t b e = let l : y * (w * z) ≡ w * (y * z) = grind arith in let r : w * (t * b) ≡ t * (w * b) = grind arith in l ∙ ap (λ n. w * n) e ∙ r
 
 -- ---- what stands for such a decimal
-
--- how far parts are from the size
-abbrev far : (middle parts : ℕ) → ℕ
-far middle parts = (middle - parts) + (parts - middle)
-
--- so many parts read back
-abbrev inside : Range → (parts : ℕ) → Bool
-inside range parts = below range.ends range.low parts && below range.ends parts range.high
 
 -- a number of these steps reads back and is no farther, and where it is as far, it is the same
 record StandsFor (range : Range) (more parts : ℕ) : Type 0 where
@@ -121,9 +114,3 @@ takes_shortest least size is =
           let all = squeezed (distance range taken.units) (distance range (s.count * 10 ^ more)) (distance (range_at least place size) count) near s.near same in
           has_even range order more s.count last s.back all.0 (λ e. other (ap (λ n. n * range.unit) e ∙ s.same all.1));
     }
-  where
-    le_on : (a b c : ℕ) → a ≤ b → b ≤ c → a ≤ c
-    le_on a b c x y = omega (arith, x, y)
-
-    squeezed : (a b c : ℕ) → a ≤ b → b ≤ c → a ≡ c → (a ≡ b) × (b ≡ c)
-    squeezed a b c x y e = (omega (arith, x, y, e), omega (arith, x, y, e))

@@ -1,4 +1,4 @@
--- The laws of the shortest decimal.
+-- The laws of the shortest decimal. A `size` is the `Size` of jser_decimal, which other crates cannot name.
 use Rattle.std.specs.Prelude.{ℕ, ◌≡◌, ◌<◌, ◌+◌, ◌*◌, ◌/◌, ◌%◌, ◌^◌, true, false}
 use Rattle.jser_decimal.specs.declared.Decimal.{Decimal}
 use Rattle.jser_decimal.specs.declared.Magnitude.{Magnitude}
@@ -7,7 +7,7 @@ use Rattle.jser_decimal.specs.Floats.{double_of, single_of, size_with}
 use Rattle.jser_decimal.specs.Shortest.{Range, range_at, reads_back, shortest}
 use Rattle.uses_decimal.specs.Meaning.{IsShortest, IsSize, MeetHalfWay}
 
--- the decimal that the definition finds is the shortest, for floats of every kind
+-- the decimal that the definition finds is the shortest, for floats of every kind: so 17 digits are always enough
 abbrev pub TakesShortest : Type 0
 TakesShortest = (least : ℕ) (size : _) → IsSize least size.significand size.power size.at_edge → IsShortest (λ place. range_at least place size) (shortest least size)
 
@@ -38,7 +38,7 @@ DoublesAreShortest = (bits : ℕ) → 0 < bits % 2 ^ 63 → bits % 2 ^ 63 < 2047
 abbrev pub SinglesAreShortest : Type 0
 SinglesAreShortest = (bits : ℕ) → 0 < bits % 2 ^ 31 → bits % 2 ^ 31 < 255 * 2 ^ 23 → HasShortest (single_range (bits % 2 ^ 31)) (single_of bits).magnitude
 
--- Floats of bits that follow one another meet half way. So `range_at` need not be believed: it says what rounding to the nearest float means.
+-- Floats of bits that follow one another meet half way, and one of the two takes that point. So the quarters of `range_at` need not be believed.
 abbrev pub NextMeets : Type 0
 NextMeets = (least one bits place : ℕ) → 0 < one → one % 2 ≡ 0 → MeetHalfWay (range_of least one bits place) (range_of least one (bits + 1) place)
 

@@ -4,7 +4,7 @@ use Rattle.std.specs.Prelude.{ℕ, ◌≡◌, ◌≢◌, ◌<◌, ◌≤◌, ◌
 use Rattle.jser_decimal.specs.declared.Decimal.{Decimal}
 use Rattle.jser_decimal.specs.Shortest.{Range, reads_back}
 
--- a size that a float can have: a significand of at most 53 bits, which is the least one at an edge
+-- a size that a float can have: a significand of at most 53 bits, and of none but the first of them at an edge
 pub record IsSize (least significand power : ℕ) (at_edge : Bool) : Type 0 where
   pub kind : least ≤ 1074
   pub within : power ≤ least + 1000
@@ -41,7 +41,7 @@ pub record IsShortest (range : (place : ℕ) → Range) (taken : Decimal) : Type
 
 -- ---- two floats
 
--- The ranges of two floats meet half way between them, and that point is in one of the two.
+-- The ranges of two floats meet half way between them, and one of the two takes that point.
 pub record MeetHalfWay (this next : Range) : Type 0 where
   pub point : next.low ≡ this.high
   pub half : this.middle + next.middle ≡ 2 * this.high

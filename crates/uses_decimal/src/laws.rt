@@ -26,7 +26,7 @@ pub fn singles_are_shortest()
     ensures { SinglesAreShortest }
 {}
 
-/// Floats of bits that follow one another meet half way, and that point is in one of the two.
+/// Floats of bits that follow one another meet half way, and one of the two takes that point.
 #[tactic(auto, using(crate::proofs::NextLemmas::next_meets))]
 pub fn next_meets()
     ensures { NextMeets }
