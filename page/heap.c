@@ -119,6 +119,18 @@ __uint128_t __multi3(uint64_t a, uint64_t a_high, uint64_t b, uint64_t b_high) {
     return (__uint128_t)high << 64 | two << 32 | (low & half);
 }
 
+/* A number of 128 bits, moved up by less than 128. */
+__uint128_t __ashlti3(uint64_t low, uint64_t high, int count) {
+    if (count >= 64) {
+        high = low << (count - 64);
+        low = 0;
+    } else if (count > 0) {
+        high = high << count | low >> (64 - count);
+        low <<= count;
+    }
+    return (__uint128_t)high << 64 | low;
+}
+
 int memcmp(const void *left, const void *right, size_t count) {
     const unsigned char *a = left, *b = right;
     for (size_t at = 0; at < count; at++) {
