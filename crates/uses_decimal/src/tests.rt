@@ -2,6 +2,30 @@
 
 use crate::floats::{decimal_of_double, decimal_of_single};
 
+// README: jser_decimal
+use jser_decimal::{Magnitude, double_of};
+
+/// The digits of the double with these bits, and the power of ten that the last of them counts.
+fn digits_of(bits: u64) -> Option<(u64, i64)> {
+    match double_of(bits).magnitude {
+        Magnitude::Finite(decimal) => Some((decimal.units, i64::from(decimal.place) - 344)),
+        Magnitude::Zero | Magnitude::Infinite | Magnitude::NotANumber => None,
+    }
+}
+// end
+
+#[test]
+fn digits_of_a_tenth(rt: HostRuntime) {
+    match digits_of(0x3FB9_9999_9999_999A) {
+        Some((digits, power)) => {
+            assert_eq!(rt; digits, 10_000_000_000_000_000);
+            assert_eq!(rt; power, -17);
+        }
+        None => assert!(rt; false, "it has digits"),
+    }
+    assert!(rt; digits_of(0).is_none(), "zero has none");
+}
+
 #[test]
 fn edges_of_doubles(rt: HostRuntime) {
     // 4.9E-324, 2.2250738585072014E-308, 2.0E23 and 1.7976931348623157E308: a unit is 10^(place - 344)
