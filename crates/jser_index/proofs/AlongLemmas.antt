@@ -19,8 +19,9 @@ use Rattle.jser_reader.specs.declared.Item.{Item}
 use Rattle.jser_reader.specs.declared.Item.TheVariants as item
 use Rattle.jser_reader.specs.declared.tally.Tally.{Tally}
 use Rattle.jser_reader.specs.Readers.{Seen}
-use Rattle.jser_reader.specs.Items.{Items, text_items, items_at, IsOfText, IsRawPart, IsLent}
+use Rattle.jser_reader.specs.Items.{text_items, items_at, IsOfText, IsRawPart, IsLent}
 use Rattle.jser_reader.specs.ItemsTold.{StandsIn, TokenEnds, IsFull, MayGoOn, TokenGoesOn, Lends}
+use Rattle.jser_reader.proofs.TextTokens.{IsTextToken, text_told}
 use Rattle.jser_index.specs.Along.{Ends, IsLength, InText, Between, IsStuck, Moves}
 
 -- ---- a token that one item is, from its beginning
@@ -104,55 +105,6 @@ whole_token _ m told lent a h = absurd a
 
 -- ---- the bytes of a text, after its length
 
-abbrev IsTexts : Items → Type 0
-IsTexts (text_items long) = Unit {0}
-IsTexts _ = ⊥
-
-abbrev long_in : Items → Bool
-long_in (text_items long) = long
-long_in _ = false
-
--- a text of this form, which obeys the format
-pub record TextTold (told : StreamToken) (long : Bool) : Type 0 where
-  units : List ℕ
-  is_text : IsText long units
-  is : told ≡ text_token long units
-
-text_of : (at long : Bool) (units : List ℕ) → text_items at ≡ text_items long → IsText at units → TextTold (text_token at units) long
-text_of at long units e t =
-    let same = ap long_in e in
-    record { units = units; is_text = subst (λ l. IsText l units) same t; is = ap (λ l. text_token l units) same }
-
-pub text_told : (p : Position) (m : Moment) (told : StreamToken) (long : Bool) → AcceptsAt p m told → items_at p ≡ text_items long → TextTold told long
-text_told (string_at false) m (text_token false units) long a e = text_of false long units e a
-text_told (string_at true) m (text_token true units) long a e = text_of true long units e a
-text_told (class_name_at role) m (text_token false units) long a e = text_of false long units e a.0.0
-text_told field_name_at m (text_token false units) long a e = text_of false long units e a
-text_told interface_name_at m (text_token false units) long a e = text_of false long units e a.0
-text_told nowhere m told long a e = absurd (subst IsTexts (sym e) tt)
-text_told header_at m told long a e = absurd (subst IsTexts (sym e) tt)
-text_told top_at m told long a e = absurd (subst IsTexts (sym e) tt)
-text_told annotation_at m told long a e = absurd (subst IsTexts (sym e) tt)
-text_told value_at m told long a e = absurd (subst IsTexts (sym e) tt)
-text_told text_place_at m told long a e = absurd (subst IsTexts (sym e) tt)
-text_told (class_place_at owner) m told long a e = absurd (subst IsTexts (sym e) tt)
-text_told (superclass_place_at owner strict) m told long a e = absurd (subst IsTexts (sym e) tt)
-text_told back_handle_at m told long a e = absurd (subst IsTexts (sym e) tt)
-text_told text_handle_at m told long a e = absurd (subst IsTexts (sym e) tt)
-text_told (class_handle_at owner) m told long a e = absurd (subst IsTexts (sym e) tt)
-text_told (superclass_handle_at owner strict) m told long a e = absurd (subst IsTexts (sym e) tt)
-text_told suid_at m told long a e = absurd (subst IsTexts (sym e) tt)
-text_told field_count_at m told long a e = absurd (subst IsTexts (sym e) tt)
-text_told interface_count_at m told long a e = absurd (subst IsTexts (sym e) tt)
-text_told array_length_at m told long a e = absurd (subst IsTexts (sym e) tt)
-text_told (flags_at role) m told long a e = absurd (subst IsTexts (sym e) tt)
-text_told (type_code_at seen) m told long a e = absurd (subst IsTexts (sym e) tt)
-text_told (block_length_at false) m told long a e = absurd (subst IsTexts (sym e) tt)
-text_told (block_length_at true) m told long a e = absurd (subst IsTexts (sym e) tt)
-text_told (raw_at c n) m told long a e = absurd (subst IsTexts (sym e) tt)
-text_told (bytes_at n) m told long a e = absurd (subst IsTexts (sym e) tt)
-text_told _ m told long a e = absurd a
-
 pub same_rest : (xs zs ys ws : List ℕ) → xs ++ ys ≡ zs ++ ws → length xs ≡ length zs → ys ≡ ws
 same_rest [] [] ys ws e n = e
 same_rest [] (z ∷ zs) ys ws e n = absurd (omega arith)
@@ -162,13 +114,13 @@ same_rest (x ∷ xs) (z ∷ zs) ys ws e n = same_rest xs zs ys ws (tails e) (ome
     tails : {x y : ℕ} {xs ys : List ℕ} → x ∷ xs ≡ y ∷ ys → xs ≡ ys
     tails e = cc
 
-pub text_bytes : (told : StreamToken) (long : Bool) → TextTold told long
+pub text_bytes : (told : StreamToken) (long : Bool) → IsTextToken long told
     → (units : List ℕ) × IsText long units × (told ≡ text_token long units)
     × (bytes_of told ≡ big_bytes (head_size long) (length (modified_utf8 units)) ++ modified_utf8 units)
-text_bytes told false t = (t.units, t.is_text, t.is, ap bytes_of t.is)
-text_bytes told true t = (t.units, t.is_text, t.is, ap bytes_of t.is)
+text_bytes told false t = (t.0, t.1, t.2, ap bytes_of t.2)
+text_bytes told true t = (t.0, t.1, t.2, ap bytes_of t.2)
 
-text_part : (long : Bool) (cut taken : List ℕ) (lent : Item) (told : StreamToken) → TextTold told long → length cut ≡ head_size long → 0 < length taken
+text_part : (long : Bool) (cut taken : List ℕ) (lent : Item) (told : StreamToken) → IsTextToken long told → length cut ≡ head_size long → 0 < length taken
     → bytes_of told ≡ cut ++ taken → IsOfText long cut taken lent → Ends lent told
 text_part long cut taken (item.TextPart part) told t size some b h =
     let x = text_bytes told long t in

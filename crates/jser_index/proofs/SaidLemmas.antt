@@ -19,7 +19,8 @@ use Rattle.jser_reader.specs.Readers.{Seen}
 use Rattle.jser_reader.specs.WholesTold.{TellsWhole}
 use Rattle.jser_printer.specs.Passing.{says_next}
 use Rattle.jser_printer.specs.Says.{Says}
-use Rattle.jser_index.specs.Along.{Ends, IsLength, IsTextOf, items_of, whole_size}
+use Rattle.jser_index.specs.Along.{Ends, IsLength, IsTextOf, items_of}
+use Rattle.jser_reader.specs.Visits.{whole_size}
 use Rattle.jser_index.specs.SaidItems.{SaysToken, SaysItems, BeginsItems}
 use Rattle.jser_index.specs.Showing.{PutsFront}
 use Rattle.jser_index.proofs.TurnLemmas.{Turn, turns, takes_item}

@@ -24,10 +24,12 @@ use Rattle.jser_reader.specs.Readers.{Seen}
 use Rattle.jser_reader.specs.WholesTold.{TextEnds, TellsText, TellsWhole}
 use Rattle.jser_printer.specs.declared.Token.TheVariants as lent
 use Rattle.jser_printer.specs.Given.{IsOf}
-use Rattle.jser_index.specs.Along.{Ends, IsLength, IsTextOf, Where, GoesAlong, whole_size}
+use Rattle.jser_index.specs.Along.{Ends, IsLength, IsTextOf, Where, GoesAlong}
+use Rattle.jser_reader.specs.Visits.{whole_size}
 use Rattle.jser_index.specs.Reading.{SurveysAlong}
 use Rattle.jser_index.specs.Surveying.{IsAt, IsQuiet, GoesPast, GoesPastBoth, GoesPastOwner, GoesPastWhole}
-use Rattle.jser_index.proofs.AlongLemmas.{text_told, text_bytes, same_rest}
+use Rattle.jser_reader.proofs.TextTokens.{text_told}
+use Rattle.jser_index.proofs.AlongLemmas.{text_bytes, same_rest}
 use Rattle.jser_index.proofs.SurveyLemmas.{handle_quiet}
 use Rattle.jser_index.proofs.TurnLemmas.{Turn, token_taken, turns, takes_item}
 use Rattle.jser_index.proofs.ReadLemmas.{Meets, meets, took, does}

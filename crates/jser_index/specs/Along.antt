@@ -126,13 +126,7 @@ pub record GoesAlong (gate : Gate) (bytes rest : List ℕ) (r : Seen) (tally : T
 abbrev pub BeginsAt : Reading OpenGate → Type 0
 BeginsAt reader = StandsIn open_gate [] [] reader.machine reader.tally
 
--- how many bytes a value has that is lent at once
-abbrev pub whole_size : Whole → ℕ
-whole_size (whole.Reference handle) = 5
-whole_size (whole.String text) = length text.now + 3
-whole_size (whole.Owner tag class) = 6
-
--- its items
+-- the items of a value that is lent at once
 abbrev pub items_of : Whole → List Item
 items_of (whole.Reference handle) = item.Tag TC_REFERENCE ∷ item.Handle handle ∷ []
 items_of (whole.String text) = item.Tag TC_STRING ∷ item.TextPart text ∷ []

@@ -1,6 +1,7 @@
 //! What a reader lends of a stream that it is given in one piece: tokens, or the bytes of texts.
 ghost use Rattle.std.specs.Prelude.{◌≡◌};
-ghost use Rattle.jser_index.specs.Along.{IsPartOf, whole_size};
+ghost use Rattle.jser_index.specs.Along.{IsPartOf};
+ghost use Rattle.jser_reader.specs.Visits.{whole_size};
 
 use jser_printer::Token;
 use jser_reader::{Item, Whole};
