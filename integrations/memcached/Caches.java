@@ -221,6 +221,8 @@ public final class Caches {
     }
 
     public static void main(String[] words) throws Exception {
+        // The client's own threads log a line in several writes, and one stream keeps lines whole.
+        System.setErr(System.out);
         Caches caches = new Caches(words);
         System.out.println("connected\n.");
         BufferedReader lines = new BufferedReader(new InputStreamReader(System.in));
