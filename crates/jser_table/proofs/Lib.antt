@@ -9,4 +9,5 @@ pub mod UpwardLemmas
 pub mod FlagLemmas
 pub mod WalkLemmas
 pub mod FiledLemmas
+pub mod AheadLemmas
 pub mod TableLemmas

@@ -9,6 +9,7 @@ pub mod Lined
 pub mod Upwards
 pub mod Paths
 pub mod Descriptors
+pub mod Aheads
 pub mod Jumps
 pub mod Kept
 pub mod Stored

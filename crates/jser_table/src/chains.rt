@@ -15,12 +15,14 @@ ghost use Rattle.jser_table.specs.Paths.{FilesOne, IsPathUnder};
 ghost use Rattle.jser_table.specs.Jumps.{JumpsFar, TakesJump};
 ghost use Rattle.jser_table.specs.Descriptors.{AreTold, IsHighest, GoesUp, IsAbove, IsTold, IsLast, IsLastUnder, AreShelved, IsFiled, chains_of, chain_of_parent, count_of, front_of};
 
+use crate::ahead::Ahead;
 use crate::codes::{leading_size, prim_size_in};
 use crate::descriptor::{Above, Counted, Descriptor, Filed, Links, Upward};
 use crate::entry::MOST_CHAINS;
 use crate::kept::KeptLayer;
 use crate::layer::{Fit, Purpose};
 use crate::section::{Section, SectionNumber, Sections};
+use crate::walks::{filed_at, section_after, section_after_kept, section_below};
 use std::alloc::{AllocError, Global};
 use std::marker::Model;
 
@@ -30,6 +32,8 @@ pub(crate) struct Chains {
     descriptors: Vec<Descriptor>,
     /// The sections of those that have one.
     sections: Vec<Filed>,
+    /// Sections that come next in an object's data.
+    ahead: Ahead,
 }
 
 impl Model for Chains {
@@ -38,7 +42,8 @@ impl Model for Chains {
 
     ghost Value = { ChainList };
 
-    ghost use Rattle.jser_table.specs.Descriptors.{AreShelved, chains_of};
+    ghost use Rattle.jser_table.specs.Aheads.{AreWhole};
+    ghost use Rattle.jser_table.specs.Descriptors.{chains_of};
     ghost use Rattle.jser_table.specs.Lined.{lines_of};
 
     ghost view = { λ a. record {
@@ -47,12 +52,12 @@ impl Model for Chains {
       room = min (2 ^ 32 - 3 - vec_len a.descriptors) (min (vec_capacity a.descriptors - vec_len a.descriptors) (vec_capacity a.sections - vec_len a.sections));
     } };
 
-    ghost invariant = { λ a. AreShelved a.descriptors.items a.sections.items };
+    ghost invariant = { λ a. AreWhole a.descriptors.items a.sections.items a.ahead };
 }
 
 impl Chains {
     /// No chains. Takes no memory.
-    #[tactic(auto, using(crate::proofs::ChainLemmas::chains_of_none, crate::proofs::LineLemmas::lines_of_none, crate::proofs::FiledLemmas::shelved_none))]
+    #[tactic(auto, using(crate::proofs::ChainLemmas::chains_of_none, crate::proofs::LineLemmas::lines_of_none, crate::proofs::FiledLemmas::shelved_none, crate::proofs::AheadLemmas::ahead_none))]
     pub(crate) fn new(alloc: Global) -> Chains
         ensures listed { result.listed ≡ [] }
         ensures lines { result.lines ≡ [] }
@@ -60,6 +65,7 @@ impl Chains {
         Chains {
             descriptors: Vec::new(alloc),
             sections: Vec::new(alloc),
+            ahead: Ahead::new(),
         }
     }
 
@@ -91,6 +97,7 @@ impl Chains {
         ensures room { self.old.room ≤ self.new.room + 1 }
     {
         let place = self.descriptors.len();
+        self.ahead.clear();
         let above = above_of(&self.descriptors, parent);
         self.descriptors
             .push_reserved(Descriptor::begun(above, layer));
@@ -230,14 +237,32 @@ impl Chains {
         section_after(&self.descriptors, &self.sections, last, section)
     }
 
+    /// The section that comes after this one in data that end with the section `last`. Those that come next may be kept.
+    #[tactic(auto, using(crate::proofs::ChainLemmas::length_chains_of))]
+    #[inline(always)]
+    pub(crate) fn pass_section(&mut self, last: u32, section: u32) -> Option<u32>
+        requires { IsOn self.old.listed last section }
+        ensures next { IsNext self.old.listed last section result }
+        ensures same { self.new ≡ self.old }
+    {
+        section_after_kept(
+            &self.descriptors,
+            &self.sections,
+            &mut self.ahead,
+            last,
+            section,
+        )
+    }
+
     /// Forgets all chains, and keeps the room.
-    #[tactic(auto, using(crate::proofs::ChainLemmas::chains_of_none, crate::proofs::LineLemmas::lines_of_none, crate::proofs::FiledLemmas::shelved_none))]
+    #[tactic(auto, using(crate::proofs::ChainLemmas::chains_of_none, crate::proofs::LineLemmas::lines_of_none, crate::proofs::FiledLemmas::shelved_none, crate::proofs::AheadLemmas::ahead_none))]
     pub(crate) fn clear(&mut self)
         ensures listed { self.new.listed ≡ [] }
         ensures lines { self.new.lines ≡ [] }
     {
         self.descriptors.clear();
         self.sections.clear();
+        self.ahead.clear();
     }
 }
 
@@ -374,16 +399,6 @@ fn descriptor_at(descriptors: &[Descriptor], place: usize) -> &Descriptor
     &descriptors[place]
 }
 
-/// The section with this number.
-fn filed_at<'a>(descriptors: &[Descriptor], sections: &'a [Filed], number: u32) -> &'a Filed
-    requires shelved { AreShelved descriptors.now sections.now }
-    requires number_in { HasSection (chains_of descriptors.now) number }
-    ensures told { IsFiled (chains_of descriptors.now) number result.now }
-    ensures is { result.now ≡ filed_in sections.now number }
-{
-    &sections[number as usize]
-}
-
 /// The size of the raw value at this place of the section. As long as the codes before it are those of
 /// primitive types, which holds in each stream, it is found at once.
 #[tactic(auto, using(crate::proofs::ChainLemmas::length_chains_of))]
@@ -438,85 +453,6 @@ fn first_of(descriptors: &[Descriptor], sections: &[Filed], place: usize, last: 
     } else {
         section_below(descriptors, sections, last, 0)
     }
-}
-
-/// The section that comes after this one in data that end with the section `last`.
-#[tactic(auto, using(crate::proofs::ChainLemmas::length_chains_of))]
-fn section_after(
-    descriptors: &[Descriptor],
-    sections: &[Filed],
-    last: u32,
-    section: u32,
-) -> Option<u32>
-    requires shelved { AreShelved descriptors.now sections.now }
-    requires on { IsOn (chains_of descriptors.now) last section }
-    ensures { IsNext (chains_of descriptors.now) last section result }
-{
-    if section == last {
-        return None;
-    }
-    let own = filed_at(descriptors, sections, section);
-    if own.path == filed_at(descriptors, sections, last).path && section < last {
-        return Some(own.below);
-    }
-    section_after_by_walk(descriptors, sections, last, section)
-}
-
-/// The section that comes after this one in data that end with the section `last`, where the two are on no path.
-fn section_after_by_walk(
-    descriptors: &[Descriptor],
-    sections: &[Filed],
-    last: u32,
-    section: u32,
-) -> Option<u32>
-    requires shelved { AreShelved descriptors.now sections.now }
-    requires on { IsOn (chains_of descriptors.now) last section }
-    ensures { IsNext (chains_of descriptors.now) last section result }
-{
-    let before = filed_at(descriptors, sections, section).upward.count;
-    if filed_at(descriptors, sections, last).upward.count <= before {
-        return None;
-    }
-    Some(section_below(descriptors, sections, last, before))
-}
-
-/// The section that has `before` others above it in data that end with the section `last`, found by a walk up from that.
-#[inline(never)]
-fn section_below(descriptors: &[Descriptor], sections: &[Filed], last: u32, before: u32) -> u32
-    requires shelved { AreShelved descriptors.now sections.now }
-    requires last_in { HasSection (chains_of descriptors.now) last }
-    requires over { before < length (down_to (chains_of descriptors.now) last) }
-    ensures { IsAfter (chains_of descriptors.now) last before result }
-{
-    let mut place = last;
-    'walk: while let Some(higher) = section_over(descriptors, sections, place, before) {
-        place = higher;
-    }
-    place
-}
-
-/// The section above this one that the longest link leads to which still has as many as `before` above it, if there is one.
-fn section_over(
-    descriptors: &[Descriptor],
-    sections: &[Filed],
-    place: u32,
-    before: u32,
-) -> Option<u32>
-    requires shelved { AreShelved descriptors.now sections.now }
-    requires place_in { HasSection (chains_of descriptors.now) place }
-    requires over { before < length (down_to (chains_of descriptors.now) place) }
-    ensures up { IfSome result (RisesOver (chains_of descriptors.now) before place) }
-    ensures here { IfNone result (length (down_to (chains_of descriptors.now) place) ≡ before + 1) }
-{
-    let own = filed_at(descriptors, sections, place);
-    if own.upward.count - 1 <= before {
-        return None;
-    }
-    let jump = own.upward.jump;
-    if filed_at(descriptors, sections, jump).upward.count > before {
-        return Some(jump);
-    }
-    Some(own.upward.above)
 }
 
 /// The layer at this index of the chain at `start`.

@@ -2,6 +2,7 @@
 //! descriptor that has been read.
 #![tactic(auto)]
 
+mod ahead;
 mod chains;
 mod class;
 mod codes;
@@ -14,6 +15,7 @@ mod layer;
 mod name;
 mod section;
 mod table;
+mod walks;
 
 pub use class::{ChainNumber, Class};
 pub use codes::{Codes, size_of_code};

@@ -360,6 +360,22 @@ impl Table {
         Some(SectionNumber { number })
     }
 
+    /// What `next_section` gives. For one who goes along all sections of an object's data it takes fewer steps: where one is
+    /// found by a walk, up to 15 that come after it are found too, and kept until a class is closed or they are of no use.
+    #[inline(always)]
+    pub fn pass_section(
+        &mut self,
+        last: SectionNumber,
+        section: SectionNumber,
+    ) -> Option<SectionNumber>
+        requires { IsOn self.old.chains last section }
+        ensures next { IsNext self.old.chains last section result }
+        ensures same { self.new ≡ self.old }
+    {
+        let number = self.chains.pass_section(last.number, section.number)?;
+        Some(SectionNumber { number })
+    }
+
     /// Forgets all entries, and keeps the memory for the next ones.
     pub fn reset(&mut self)
         ensures entries { self.new.entries ≡ [] }

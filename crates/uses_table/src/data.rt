@@ -25,6 +25,25 @@ pub fn has_annotation(table: &Table, chain: ChainNumber) -> bool
     false
 }
 
+/// What `has_annotation` tells, by steps that keep the sections which come next.
+pub fn finds_annotation(table: &mut Table, chain: ChainNumber) -> bool
+    requires { chain < length table.old.chains }
+    ensures is { result ≡ list_any (λ layer. has_write_method layer.flags) (filled_layers (chain_in table.old.chains chain)) }
+    ensures same { table.new ≡ table.old }
+{
+    let Some(Sections { first, last }) = table.sections(chain) else {
+        return false;
+    };
+    let mut at = Some(first);
+    'sections: while let Some(section) = at {
+        if table.section(section).is_annotated {
+            return true;
+        }
+        at = table.pass_section(last, section);
+    }
+    false
+}
+
 /// How many bytes the first raw value of a section has, if it has one.
 pub fn first_size(table: &Table, section: SectionNumber) -> Option<u8>
     requires { HasSection table.now.chains section }

@@ -2,7 +2,7 @@ use Rattle.std.proofs.Common.{◌<◌, length}
 use Rattle.jser_table.specs.Chains.{IsFront}
 use Rattle.jser_table.specs.Sections.{HasSection, down_to}
 use Rattle.jser_table.specs.Descriptors.{chains_of}
-use Rattle.jser_table.proofs.chains.section_below.Given as goal
+use Rattle.jser_table.proofs.walks.section_below.Given as goal
 
 abbrev pub invariant-walk : goal.invariant-walk
 invariant-walk l = record {
