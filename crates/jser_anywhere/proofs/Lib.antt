@@ -1,4 +1,5 @@
 mod CoreLemmas
+pub mod LetterLemmas
 pub mod NameLemmas
 pub mod RowLemmas
 pub mod PlaceLemmas

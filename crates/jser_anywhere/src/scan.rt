@@ -5,15 +5,13 @@ ghost use Rattle.jser_anywhere.specs.Steps.{HasRoom, NameFits, RowFits, gone_on,
 ghost use Rattle.jser_anywhere.specs.Scans.{HasScanned, Hurries, TakesBytes};
 
 use crate::hidden::{Hidden, Judge};
+use crate::letters::{Letters, push_letters};
 use crate::open::{Name, Row, RowAt, Text};
 use crate::quiet::{may_begin, quiet_until, text_until};
 use crate::recent::{Begun, Recent};
 use crate::text::{Place, Taken};
 use arrayvec::ArrayVec;
 use std::marker::Model;
-
-/// Room for the units of the texts that may be names: of two that overlap, one begins a byte later.
-const ROOM: usize = 9217;
 
 /// A scan of bytes that come in pieces, for the first name that can be read at any place and does not pass.
 ///
@@ -22,7 +20,7 @@ const ROOM: usize = 9217;
 pub struct Scan {
     count: u64,
     recent: Recent,
-    kept: ArrayVec<u16, ROOM>,
+    kept: Letters,
     name: Option<Name>,
     even: Option<Row>,
     odd: Option<Row>,
@@ -340,16 +338,6 @@ impl Scan {
             (None, Some(name)) => name.onward(),
             (None, None) => None,
         }
-    }
-}
-
-/// Keeps these letters, a unit for each.
-#[tactic(auto, using(crate::proofs::ReadLemmas::pushed_none, crate::proofs::ReadLemmas::pushed_more, crate::proofs::ReadLemmas::pushed_all))]
-fn push_letters(kept: &mut ArrayVec<u16, ROOM>, bytes: &[u8])
-    ensures { length kept.old.items + length bytes.now ≤ 9217 → kept.new.items ≡ kept.old.items ++ bytes.now }
-{
-    'bytes: for byte in bytes {
-        let _ = kept.try_push(u16::from(*byte));
     }
 }
 

@@ -1,5 +1,5 @@
 use Rattle.std.proofs.Common.{◌≡◌, ◌+◌, ◌++◌, ◌≤◌, length, take}
-use Rattle.jser_anywhere.proofs.scan.push_letters.Given as goal
+use Rattle.jser_anywhere.proofs.letters.push_few.Given as goal
 
 abbrev pub invariant-bytes : goal.invariant-bytes
 invariant-bytes l = length l.fn.kept.items + length l.bytes ≤ 9217 → l.kept.items ≡ l.fn.kept.items ++ take l.byte-index l.bytes
