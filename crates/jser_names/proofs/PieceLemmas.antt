@@ -6,7 +6,7 @@ use Rattle.jser_reader.specs.declared.Item.{Item}
 use Rattle.jser_reader.specs.declared.Stop.{Stop}
 use Rattle.jser_reader.specs.declared.Stop.TheVariants as stop
 use Rattle.jser_reader.specs.declared.tally.Tally.{Tally}
-use Rattle.jser_reader.specs.Feeds.{FeedCases, FeedTells, FeedVisits}
+use Rattle.jser_reader.specs.Feeds.{FeedCases, FeedTells, FeedVisits, all_after}
 use Rattle.jser_reader.specs.Gates.{open_gate}
 use Rattle.jser_reader.specs.Readers.{Seen}
 use Rattle.jser_reader.specs.ReaderStates.{StandsFor, SkipCases}
@@ -21,12 +21,12 @@ unfolding StandsFor
 stands_for taken r tally x h = subst (λ bytes. StandsFor open_gate bytes r tally) (sym h.split) (h.reads.counted, h.reads.within)
 
 pub fed_all : {F : Type 0} (stops : Item → F → Names → Names → Type 0) (taken piece : List ℕ) (old : Seen) (before : Tally) (x : Names) (new : Seen) (after : Tally) (y : Names)
-    → FeedVisits (λ lent a b. Takes lent a b) stops open_gate piece (Ok tt) old before new after x y → Stands taken old before x → Stands (taken ++ piece) new after y
+    → FeedVisits (λ lent w a b. Takes lent a b) stops open_gate piece (Ok tt) old before new after x y → Stands taken old before x → Stands (taken ++ piece) new after y
 unfolding FeedVisits
 fed_all stops taken piece old before x new after y v st =
     let from : Spot = record { front = st.front; cut = st.cut } in
     let all = v from st.reads in
-    let at = visited_keeps (λ lent a b. Takes lent a b) (λ at z. StandsAt at z) takes_item takes_short from x (st.at, st.measures) all.visited in
+    let at = visited_keeps (λ lent w a b. Takes lent a b) open_gate (all_after from piece) (λ at z. StandsAt at z) (λ at to lent w y z h shown did. takes_item at to lent y z h shown.next did) (λ at to y h short end. takes_short at to y h short) from x (st.at, st.measures) all.visited in
     record {
       front = all.to.front;
       cut = all.to.cut;

@@ -1,10 +1,11 @@
 //! The names that are counted along the items of a stream in pieces, and the length of its longest array.
-ghost use Rattle.std.specs.Prelude.{◌≡◌, [], false, OnOk};
-ghost use Rattle.jser_names.specs.Standing.{Adds, Closes, ClosesThen, Takes, begun};
+ghost use Rattle.std.specs.Prelude.{◌≡◌, ℕ, [], false, OnOk};
+ghost use Rattle.jser_reader.specs.Visits.{TakesAll, name_items, type_items};
+ghost use Rattle.jser_names.specs.Standing.{Adds, Closes, ClosesName, ClosesThen, Takes, begun};
 
 use crate::counts::NameCounts;
-use jser_grammar::wire::TC_CLASSDESC;
-use jser_reader::{Item, Visit, Whole};
+use jser_grammar::wire::{TC_CLASSDESC, TC_REFERENCE};
+use jser_reader::{Field, Item, Visit, Whereabouts, Whole};
 use std::alloc::{AllocError, Global};
 use std::marker::Model;
 
@@ -72,18 +73,57 @@ impl Collector {
         }
     }
 
-    /// Where a name was being read, it is counted: other items come.
+    /// Counts the name that was being read.
     #[tactic(auto, using(crate::proofs::CollectorLemmas::closes_name))]
+    #[inline(never)]
+    fn count(&mut self) -> Result<(), AllocError>
+        ensures { OnOk result (ClosesName self.old self.new) }
+    {
+        self.names.count_text(&self.text, &mut self.units)?;
+        self.left = self.left.saturating_sub(1);
+        self.is_open = false;
+        Ok(())
+    }
+
+    /// Where a name was being read, it is counted: other items come.
+    #[inline(always)]
     pub(crate) fn close(&mut self) -> Result<(), AllocError>
         ensures { OnOk result (Closes self.old.is_open self.old self.new) }
     {
         if !self.is_open {
             return Ok(());
         }
-        self.names.count_text(&self.text, &mut self.units)?;
-        self.left = self.left.saturating_sub(1);
-        self.is_open = false;
-        Ok(())
+        self.count()
+    }
+
+    /// Takes the items of the name of a declared field. It is a name only if one comes next, and in a stream none does.
+    #[inline(never)]
+    fn field_name(&mut self, name: &[u8], whereabouts: Whereabouts) -> Result<(), AllocError>
+        ensures { OnOk result ((handles end : ℕ) → TakesAll (λ lent _ old new. Takes lent old new) (name_items name.entry handles end) self.old self.new) }
+    {
+        self.item(Item::TextLength(name.len() as u64), whereabouts)?;
+        if name.is_empty() {
+            return Ok(());
+        }
+        self.item(Item::TextPart(name), whereabouts)
+    }
+
+    /// Takes the items of the type of a declared field, where that is a reference with this handle.
+    #[inline(never)]
+    fn field_type(
+        &mut self,
+        handle: Option<u32>,
+        whereabouts: Whereabouts,
+    ) -> Result<(), AllocError>
+        ensures { OnOk result ((handles end : ℕ) → TakesAll (λ lent _ old new. Takes lent old new) (type_items handle handles end) self.old self.new) }
+    {
+        match handle {
+            Some(handle) => {
+                self.item(Item::Tag(TC_REFERENCE), whereabouts)?;
+                self.item(Item::Handle(handle), whereabouts)
+            }
+            None => Ok(()),
+        }
     }
 
     /// The length of the longest array; 0 where there is none.
@@ -104,12 +144,12 @@ impl Collector {
 impl Visit for Collector {
     type Fault = AllocError;
 
-    ghost takes = { λ item old new. Takes item old new };
+    ghost takes = { λ item _ old new. Takes item old new };
 
     ghost stops = { λ _ _ _ _. Unit {0} };
 
     #[inline(always)]
-    fn item(&mut self, item: Item<'_>) -> Result<(), AllocError> {
+    fn item(&mut self, item: Item<'_>, _: Whereabouts) -> Result<(), AllocError> {
         match item {
             Item::TextPart(part) => self.add(part),
             Item::TextLength(_) => {
@@ -146,9 +186,21 @@ impl Visit for Collector {
     /// No name is in it.
     #[tactic(auto, using(crate::proofs::LentLemmas::passes_whole))]
     #[inline(always)]
-    fn whole(&mut self, _: Whole<'_>) -> Result<(), AllocError> {
+    fn whole(&mut self, _: Whole<'_>, _: Whereabouts) -> Result<(), AllocError> {
         self.close()?;
         self.left = 0;
         Ok(())
+    }
+
+    /// No name is in it, where none comes next.
+    #[tactic(auto, using(crate::proofs::LentLemmas::passes_field))]
+    #[inline(always)]
+    fn field(&mut self, field: Field<'_>, whereabouts: Whereabouts) -> Result<(), AllocError> {
+        self.item(Item::TypeCode(field.code), whereabouts)?;
+        if self.left == 0 {
+            return Ok(());
+        }
+        self.field_name(field.name, whereabouts)?;
+        self.field_type(field.type_handle, whereabouts)
     }
 }

@@ -1,16 +1,16 @@
 //! How often each name was seen.
-ghost use Rattle.std.specs.Prelude.{◌≡◌, ◌<◌, ℕ, List, [], ◌∷◌, ◌++◌, is_some, length, slice_get, true, Some, None, OnOk, OnErr};
+ghost use Rattle.std.specs.Prelude.{◌≡◌, ◌<◌, ℕ, List, [], ◌∷◌, ◌++◌, is_some, length, slice_get, true, Some, None, IfSome, OnOk, OnErr};
 ghost use Rattle.jser_prim.specs.ModifiedUtf8.{IsUnits, modified_utf8};
 ghost use Rattle.jser_shown.specs.Counting.{name_tally, tally_one};
 ghost use Rattle.jser_names.specs.Counts.{IsCount, IsSpelledBy, number_in};
 
-use jser_prim::read_units;
+use jser_prim::{read_u32, read_units};
 use std::alloc::{AllocError, Global};
 use std::collections::BTreeMap;
 use std::marker::Model;
 
-/// How many of the names that were seen last are found at once.
-const RECENT: usize = 256;
+/// How many places there are for names that were seen last. Each has room for two.
+const PLACES: usize = 512;
 
 /// A name, and how often it was seen.
 #[derive(Drop)]
@@ -26,15 +26,17 @@ pub struct NameCount {
 /// The different names that were seen, in the order in which they were first seen, each with how often it was.
 ///
 /// A name is looked up by its place in the order of all of them, so that nobody can choose names that are slow to tell apart.
-/// Each different name is held twice, once in each order, and its text in the stream.
+/// Each different name is held twice, once in each order, and its text in the stream. One that was seen lately is found at
+/// once, in a table of 4 KiB.
 #[derive(Drop)]
 pub struct NameCounts {
     alloc: Global,
     counts: Vec<NameCount>,
     /// The number of each name.
     numbers: BTreeMap<Vec<u16>, usize>,
-    /// Numbers of names that were seen last, each at a place that its name tells.
-    recent: [usize; RECENT],
+    /// Numbers of names that were seen last, two at each place that a name tells: the later one, and the other one `PLACES`
+    /// behind it.
+    recent: [u32; 1024],
 }
 
 impl Model for NameCounts {
@@ -59,7 +61,7 @@ impl NameCounts {
             alloc,
             counts: Vec::new(alloc),
             numbers: BTreeMap::new(alloc),
-            recent: [0; RECENT],
+            recent: [0; 1024],
         }
     }
 
@@ -74,7 +76,7 @@ impl NameCounts {
         ensures counted { OnOk result (self.new ≡ tally_one name.now self.old) }
         ensures kept { OnErr result (self.new ≡ self.old) }
     {
-        match self.number_of(name) {
+        match self.number_of(name, place_of(name)) {
             Some(number) => self.raise(number),
             None => self.add(name, &[]),
         }
@@ -89,12 +91,12 @@ impl NameCounts {
     pub(crate) fn count_text(&mut self, text: &[u8], units: &mut Vec<u16>) -> Result<(), AllocError>
         ensures { OnOk result ((name : List ℕ) → IsUnits name → modified_utf8 name ≡ text.now → self.new ≡ tally_one name self.old) }
     {
-        let number = self.recent[place_of_text(text)];
-        if self.is_spelled(text, number) {
+        let place = place_of_text(text);
+        if let Some(number) = self.recent_text(text, place) {
             return self.raise(number);
         }
         let is_text = read_units(text, units)?;
-        match self.number_of(units) {
+        match self.number_of(units, place) {
             Some(number) => self.raise(number),
             None if is_text => self.add(units, text),
             None => self.add(units, &[]),
@@ -124,23 +126,53 @@ impl NameCounts {
         self.numbers.get(name).is_some()
     }
 
-    /// The number of this name, if it was seen.
-    fn number_of(&mut self, name: &[u16]) -> Option<usize>
+    /// The number of the name that these bytes spell, where it was seen lately.
+    fn recent_text(&mut self, text: &[u8], place: usize) -> Option<usize>
+        requires { place < 512 }
+        ensures inside { IfSome result (λ number. number < length self.old) }
+        ensures named { IfSome result (λ number. (name : List ℕ) → IsUnits name → modified_utf8 name ≡ text.now → number_in name self.old ≡ Some number) }
+        ensures kept { self.new ≡ self.old }
+    {
+        let number = self.recent[place] as usize;
+        if self.is_spelled(text, number) {
+            return Some(number);
+        }
+        let other = self.recent[place + PLACES] as usize;
+        if !self.is_spelled(text, other) {
+            return None;
+        }
+        self.remember(other, place);
+        Some(other)
+    }
+
+    /// The number of this name, if it was seen. It is kept at this place.
+    fn number_of(&mut self, name: &[u16], place: usize) -> Option<usize>
+        requires { place < 512 }
         ensures found { result ≡ number_in name.now self.old }
         ensures kept { self.new ≡ self.old }
     {
-        let place = place_of(name);
-        let number = self.recent[place];
+        let number = self.recent[place] as usize;
         if self.is_numbered(name, number) {
             return Some(number);
         }
         match self.numbers.get(name) {
             Some(number) => {
-                self.recent[place] = *number;
-                Some(*number)
+                let number = *number;
+                self.remember(number, place);
+                Some(number)
             }
             None => None,
         }
+    }
+
+    /// Keeps a number at this place, with the later one of those that are there. One that is too large is lost, and then the
+    /// name is looked up.
+    fn remember(&mut self, number: usize, place: usize)
+        requires { place < 512 }
+        ensures { self.new ≡ self.old }
+    {
+        self.recent[place + PLACES] = self.recent[place];
+        self.recent[place] = (number % 4_294_967_296) as u32;
     }
 
     /// Whether this is the number of the name.
@@ -202,28 +234,36 @@ impl NameCounts {
 
 /// Where the number of a name is kept that was seen last.
 fn place_of(name: &[u16]) -> usize
-    ensures { result < 256 }
+    ensures { result < 512 }
 {
     let middle = name.get(name.len() / 2).copied().unwrap_or(0);
     let last = name.last().copied().unwrap_or(0);
-    place(name.len(), middle as usize, last as usize)
+    place(name.len(), u32::from(middle), u32::from(last))
 }
 
-/// Where it is kept, from the bytes that spell the name: of ASCII that is the place by its units.
+/// Where it is kept, from the bytes that spell the name: their number, and four in the middle and at the end.
 fn place_of_text(text: &[u8]) -> usize
-    ensures { result < 256 }
+    ensures { result < 512 }
 {
-    let middle = text.get(text.len() / 2).copied().unwrap_or(0);
-    let last = text.last().copied().unwrap_or(0);
-    place(text.len(), middle as usize, last as usize)
+    let (_, half) = text.split_at(text.len() / 2);
+    if half.len() < 4 {
+        let last = text.last().copied().unwrap_or(0);
+        let middle = half.first().copied().unwrap_or(0);
+        return place(text.len(), u32::from(middle), u32::from(last));
+    }
+    let (middle, _) = half.split_at(4);
+    let (_, last) = half.split_at(half.len() - 4);
+    place(text.len(), read_u32(middle), read_u32(last))
 }
 
-/// The place of a name with so many units, of which these are the middle one and the last.
-fn place(len: usize, middle: usize, last: usize) -> usize
-    ensures { result < 256 }
+/// The place of a name of this length, with these units or bytes in its middle and at its end. Each of their bits has a part
+/// in it (Fibonacci hashing).
+fn place(len: usize, middle: u32, last: u32) -> usize
+    ensures { result < 512 }
 {
-    len.wrapping_mul(7)
-        .wrapping_add(middle.wrapping_mul(31))
-        .wrapping_add(last)
-        % RECENT
+    let sum = u64::from(middle)
+        .wrapping_mul(31)
+        .wrapping_add(u64::from(last))
+        .wrapping_add(len as u64);
+    (sum.wrapping_mul(0x9E37_79B9_7F4A_7C15) >> 40) as usize % PLACES
 }

@@ -1,4 +1,4 @@
-use Rattle.std.proofs.Common.{rules, sym, ap, ◌∙◌}
+use Rattle.std.proofs.Common.{rules}
 use Rattle.jser_names.proofs.CountLemmas.{inside_of}
 use Rattle.jser_names.proofs.counts.NameCounts.count.Goals as goal
 

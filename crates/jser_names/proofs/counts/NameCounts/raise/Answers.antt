@@ -1,4 +1,4 @@
-use Rattle.std.proofs.Common.{rules, ◌<◌, length, arith, ap, ◌∙◌}
+use Rattle.std.proofs.Common.{rules, ◌<◌, length}
 use Rattle.jser_names.proofs.CountLemmas.{inside_counts, raised_kept, raised_tally}
 use Rattle.jser_names.proofs.counts.NameCounts.raise.Goals as goal
 
