@@ -69,7 +69,7 @@ impl Big {
         }
     }
 
-    /// The same number.
+    /// A copy of this number.
     fn copied(&self) -> Big
         ensures { result.limbs.items ≡ self.now.limbs.items }
     {

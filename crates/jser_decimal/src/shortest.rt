@@ -163,7 +163,7 @@ struct Scale {
     unit: Big,
 }
 
-/// Those of floats of this power and of decimals at this place.
+/// The scale of floats of this power and of decimals at this place.
 fn scale_at(least: u32, power: u32, place: u32) -> Scale
     requires least { least ≤ 1074 }
     requires power { power ≤ least + 1000 }

@@ -27,7 +27,7 @@ impl<'b> Model for Finds<'b> {
 }
 
 impl<'b> Finds<'b> {
-    /// Those in these bytes, of each of which at most `most` bytes are read.
+    /// The streams in these bytes, of each of which at most `most` bytes are read.
     pub fn new(bytes: &'b [u8], most: usize) -> Finds<'b>
         ensures bytes { result.bytes ≡ bytes.now }
         ensures most { result.most ≡ most }

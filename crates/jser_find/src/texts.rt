@@ -44,7 +44,7 @@ impl<'t> Model for TextFinds<'t> {
 }
 
 impl<'t> TextFinds<'t> {
-    /// Those in this text from a place on, of each of which at most `most` bytes are read.
+    /// The streams in this text from a place on, of each of which at most `most` bytes are read.
     pub fn new(text: &'t [u8], place: usize, most: usize) -> TextFinds<'t>
         requires { place ≤ length text.now }
         ensures { result ≡ record { text = text.now; most = most; place = place } }
