@@ -3,7 +3,7 @@
 #![tactic(auto)]
 
 use anyhow::Result;
-use serialstream::{FeedFault, Item, OpenGate, Reader, TC_CLASSDESC, Visit};
+use serialstream::{FeedFault, Item, OpenGate, Reader, TC_CLASSDESC, Visit, Whereabouts};
 use std::io::Read;
 use std::str;
 
@@ -40,7 +40,7 @@ impl<'r> Names<'r> {
 impl Visit for Names<'_> {
     type Fault = anyhow::Error;
 
-    fn item(&mut self, item: Item<'_>) -> Result<()> {
+    fn item(&mut self, item: Item<'_>, _: Whereabouts) -> Result<()> {
         match item {
             Item::Tag(tag) => self.is_name = tag == TC_CLASSDESC,
             Item::InterfaceCount(_) => self.is_name = true,

@@ -38,7 +38,7 @@ pub(crate) fn deciding_piece(
     Ok(Some(Piece { index, text }))
 }
 
-/// Its index.
+/// The index of the piece that decides.
 fn deciding_index(rules: &Rules, text: &str, found: &Found) -> Option<usize> {
     match found {
         Found::Hidden { class, .. } => rejecting_index(rules, class),

@@ -88,7 +88,7 @@ fn write_why<W: Sink>(
     let rest = Rest {
         class: class.as_ref().map(Vec::as_slice),
         piece,
-        opened: without_raw_element(&opened, place_at(alloc, bytes, spot.from)?),
+        opened: without_raw_element(alloc, bytes, spot.from, &opened)?,
         writer: writer_in(&opened),
         hint: hint_of(found, bytes),
     };
@@ -202,11 +202,19 @@ fn is_behind_tag(bytes: &[u8], spot: Spot) -> bool {
     }
 }
 
-/// What is open, but for the element of an array of primitives: all its elements are one token.
-fn without_raw_element<'o, 'w>(opened: &'o [Open<'w>], place: Place) -> &'o [Open<'w>] {
+/// What is open at a place, but for the element of an array of primitives: all its elements are one token.
+fn without_raw_element<'o, 'w>(
+    alloc: Global,
+    bytes: &[u8],
+    at: u64,
+    opened: &'o [Open<'w>],
+) -> Result<&'o [Open<'w>], AllocError> {
     match opened {
-        [others @ .., Open::Element { .. }] if place == Place::Raw => others,
-        _ => opened,
+        [others @ .., Open::Element { .. }] => match place_at(alloc, bytes, at)? {
+            Place::Raw => Ok(others),
+            _ => Ok(opened),
+        },
+        _ => Ok(opened),
     }
 }
 

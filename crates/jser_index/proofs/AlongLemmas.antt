@@ -1,6 +1,6 @@
--- From the item that a reader lends to the token that it ends, or to where the token goes on.
+-- From the item that a reader shows to the token that it ends.
 use denote.Bor.{Bor}
-use Rattle.std.proofs.Common.{◌≡◌, ◌⊎◌, inl, inr, ℕ, suc, ◌+◌, ◌<◌, ◌^◌, Bool, true, false, List, [], ◌∷◌, ◌++◌, length, take, refl, sym, ◌∙◌, ap, subst, arith, append-nil, length-append}
+use Rattle.std.proofs.Common.{◌≡◌, inl, inr, ℕ, suc, ◌+◌, ◌<◌, ◌^◌, Bool, true, false, List, [], ◌∷◌, ◌++◌, length, refl, sym, ◌∙◌, ap, subst, arith, append-nil, length-append}
 use Rattle.jser_prim.specs.Bytes.{big_bytes}
 use Rattle.jser_prim.specs.ModifiedUtf8.{modified_utf8}
 use Rattle.jser_prim.proofs.TextLemmas.{one_text}
@@ -14,15 +14,11 @@ use Rattle.jser_reading.specs.Accepts.{AcceptsAt, Accepts}
 use Rattle.jser_reading.specs.ComesNext.{ComesNext}
 use Rattle.jser_reading.proofs.Next.{next_law}
 use Rattle.jser_reading.proofs.Decoding.{number_1, number_2, number_4, number_8, length-big_bytes}
-use Rattle.jser_verdict.specs.Gates.{Gate}
 use Rattle.jser_reader.specs.declared.Item.{Item}
 use Rattle.jser_reader.specs.declared.Item.TheVariants as item
-use Rattle.jser_reader.specs.declared.tally.Tally.{Tally}
-use Rattle.jser_reader.specs.Readers.{Seen}
 use Rattle.jser_reader.specs.Items.{text_items, items_at, IsOfText, IsRawPart, IsLent}
-use Rattle.jser_reader.specs.ItemsTold.{StandsIn, TokenEnds, IsFull, MayGoOn, TokenGoesOn, Lends}
 use Rattle.jser_reader.proofs.TextTokens.{IsTextToken, text_told}
-use Rattle.jser_index.specs.Along.{Ends, IsLength, InText, Between, IsStuck, Moves}
+use Rattle.jser_index.specs.Along.{Ends, Between}
 
 -- ---- a token that one item is, from its beginning
 
@@ -139,7 +135,7 @@ text_part long cut taken _ told t size some b h = absurd h
 same_label : (front : List Piece) (a b : Label) → ComesNext front a → ComesNext front b → a ≡ b
 same_label front a b h i = ((next_law front a).0 h).1 ∙ sym ((next_law front b).0 i).1
 
-token_ends : (front : List Piece) (cut taken : List ℕ) (lent : Item) (label : Label) (told : StreamToken) → Between front cut → ComesNext front label
+pub token_ends : (front : List Piece) (cut taken : List ℕ) (lent : Item) (label : Label) (told : StreamToken) → Between front cut → ComesNext front label
     → Accepts label told → bytes_of told ≡ cut ++ taken → 0 < length taken → IsLent (items_at label.position) cut taken lent → Ends lent told
 token_ends front cut taken lent label told (inl none) comes a b some h =
     whole_token label.position label.moment told lent a
@@ -149,36 +145,13 @@ token_ends front cut taken lent label told (inr t) comes a b some h =
     text_part t.long cut taken lent told (text_told label.position label.moment told t.long a same) t.size some b
     (subst (λ i. IsLent i cut taken lent) same h)
 
-no_bytes_left : (given : List ℕ) (used : ℕ) → used ≡ length given → (front back : List ℕ) → given ≡ front ++ back → length front ≡ used → back ≡ []
-no_bytes_left given used all front back split n =
-    let a = ap length split in
-    let b = length-append front back in
-    empty back (omega arith)
-  where
-    empty : {A : Type 0} (xs : List A) → length xs ≡ 0 → xs ≡ []
-    empty [] e = refl
-    empty (x ∷ xs) e = absurd (omega arith)
-
-stuck : (gate : Gate) (front : List Piece) (cut taken rest given : List ℕ) (used : ℕ) → 0 < used → taken ≡ take used given → length taken ≡ used
-    → given ≡ taken ++ rest → IsFull gate front (cut ++ taken) given used → IsStuck gate front (cut ++ taken) rest
-stuck gate front cut taken rest given used some is n split (inl all) =
-    record { some = λ e. not_none cut taken used some n e; at_end = inl (no_bytes_left given used all taken rest split n) }
-  where
-    not_none : (cut taken : List ℕ) (used : ℕ) → 0 < used → length taken ≡ used → cut ++ taken ≡ [] → ⊥
-    not_none cut taken used some n e = let a = ap length e in let b = length-append cut taken in omega arith
-stuck gate front cut taken rest given used some is n split (inr full) =
-    record { some = λ e. not_none cut taken used some n e; at_end = inr full }
-  where
-    not_none : (cut taken : List ℕ) (used : ℕ) → 0 < used → length taken ≡ used → cut ++ taken ≡ [] → ⊥
-    not_none cut taken used some n e = let a = ap length e in let b = length-append cut taken in omega arith
-
 -- the length of a text
 
 abbrev IsNoText : Item → Type 0
 IsNoText (item.TextLength n) = ⊥
 IsNoText _ = Unit {0}
 
-text_at : (p : Position) (cut taken : List ℕ) (n : ℕ) → IsLent (items_at p) cut taken (item.TextLength n)
+pub text_at : (p : Position) (cut taken : List ℕ) (n : ℕ) → IsLent (items_at p) cut taken (item.TextLength n)
     → (long : Bool) × (items_at p ≡ text_items long) × (length (cut ++ taken) ≡ head_size long)
 text_at (string_at long) cut taken n h = (long, refl, h.0)
 text_at (class_name_at role) cut taken n h = (false, refl, h.0)
@@ -206,42 +179,3 @@ text_at (flags_at role) cut taken n h = absurd (subst IsNoText (sym h.1) tt)
 text_at (type_code_at seen) cut taken n h = absurd (subst IsNoText (sym h.1) tt)
 text_at (block_length_at false) cut taken n h = absurd (subst IsNoText (sym h.1) tt)
 text_at (block_length_at true) cut taken n h = absurd (subst IsNoText (sym h.1) tt)
-
-goes_on : (gate : Gate) (front : List Piece) (label : Label) (cut taken rest given : List ℕ) (used : ℕ) (lent : Item) → ComesNext front label → 0 < used
-    → taken ≡ take used given → length taken ≡ used → given ≡ taken ++ rest → IsLent (items_at label.position) cut taken lent
-    → MayGoOn lent (IsFull gate front (cut ++ taken) given used) → (IsLength lent × InText front (cut ++ taken)) ⊎ IsStuck gate front (cut ++ taken) rest
-goes_on gate front label cut taken rest given used (item.TextLength n) comes some is size split h may =
-    let t = text_at label.position cut taken n h in
-    inl (may, record { label = label; comes = comes; long = t.0; is_text = t.1; size = t.2 })
-goes_on gate front label cut taken rest given used (item.TextPart part) comes some is size split h may =
-    inr (stuck gate front cut taken rest given used some is size split may)
-goes_on gate front label cut taken rest given used (item.RawPart part) comes some is size split h may =
-    inr (stuck gate front cut taken rest given used some is size split may)
-goes_on gate front label cut taken rest given used _ comes some is size split h may = absurd may
-
-pub moves : (gate : Gate) (front : List Piece) (cut given taken rest : List ℕ) (lent : Item) (used : ℕ) (r : Seen) (tally : Tally) → Between front cut
-    → 0 < used → taken ≡ take used given → length taken ≡ used → given ≡ taken ++ rest → Lends gate front cut given lent used r tally
-    → Moves gate front cut taken rest lent r tally
-moves gate front cut given taken rest lent used r tally b some is size split h =
-    let lent_now = subst (λ t. IsLent (items_at h.label.position) cut t lent) (sym is) h.is in
-    cases h.after lent_now
-  where
-    cases : TokenEnds gate front h.label (cut ++ take used given) r tally ⊎ TokenGoesOn gate front (cut ++ take used given) given used lent r tally
-        → IsLent (items_at h.label.position) cut taken lent → Moves gate front cut taken rest lent r tally
-    cases (inl e) l =
-        let bytes : bytes_of e.token ≡ cut ++ taken = e.spelled ∙ ap (λ t. cut ++ t) (sym is) in
-        inl (record {
-          label = h.label;
-          comes = h.comes;
-          told = e.token;
-          ends = token_ends front cut taken lent h.label e.token b h.comes e.accepted bytes (subst (λ n. 0 < n) (sym size) some) l;
-          bytes = bytes;
-          stands = e.stands;
-        })
-    cases (inr o) l =
-        inr (record {
-          stands = subst (λ t. StandsIn gate front (cut ++ t) r tally) (sym is) o.stands;
-          goes_on =
-              goes_on gate front h.label cut taken rest given used lent h.comes some is size split l
-              (subst (λ t. MayGoOn lent (IsFull gate front (cut ++ t) given used)) (sym is) o.full);
-        })

@@ -1,5 +1,5 @@
 -- The units of a text of bytes below 0x80, which are the bytes themselves, and lanes that find that out.
-use Rattle.std.proofs.Common.{◌≡◌, ℕ, zero, suc, ◌+◌, ◌<◌, ◌≤◌, Bool, true, false, List, [], ◌∷◌, ◌++◌, length, take, drop, Option, Result, Ok, Err, IsOk, IfOk, ◌↔◌, length-append, refl, sym, ◌∙◌, ap, subst, arith, slice_index_or, get_or, map, ◌-◌, ◌%◌, ◌^◌, leb, cond, inl, inr, length-take-le}
+use Rattle.std.proofs.Common.{◌≡◌, ℕ, suc, ◌+◌, ◌<◌, ◌≤◌, Bool, true, false, List, [], ◌∷◌, ◌++◌, length, take, refl, sym, ◌∙◌, ap, subst, arith, slice_index_or, get_or, map, ◌-◌, ◌%◌, ◌^◌, leb, cond, inl, inr, length-take-le}
 use Rattle.std.specs.Prelude.{nat_lt}
 use Rattle.std.proofs.Math.Dec.{eqb}
 use Rattle.std.proofs.lemmas.Bool.Decides.{nat_tests}

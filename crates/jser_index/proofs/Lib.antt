@@ -9,9 +9,10 @@ pub mod SurveyLemmas
 pub mod StringLemmas
 pub mod ReferenceLemmas
 pub mod TurnLemmas
-pub mod ReadLemmas
 pub mod WholeLemmas
-pub mod RawsLemmas
+pub mod TookLemmas
+pub mod ReadLemmas
+pub mod FedLemmas
 pub mod PassLemmas
 pub mod ShowLemmas
 pub mod SaidLemmas

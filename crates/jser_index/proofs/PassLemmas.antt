@@ -7,10 +7,11 @@ use Rattle.jser_reading.specs.TokenBytes.{bytes_of, joined}
 use Rattle.jser_reading.specs.Tokens.{tokens_of}
 use Rattle.jser_reading.specs.Goals.{State, settled}
 use Rattle.jser_reading.specs.Accepts.{label_of, Accepts}
-use Rattle.jser_reading.specs.Machine.{begin_state, Reads, left}
-use Rattle.jser_reading.specs.Scanner.{TokenGate, more, good}
+use Rattle.jser_reading.specs.Machine.{begin_state, Reads, Runs, left}
+use Rattle.jser_reading.specs.Scanner.{TokenGate, AllPass, more, good}
 use Rattle.jser_reading.proofs.Exact.{exact_law}
 use Rattle.jser_reading.proofs.Fronts.{reads_split}
+use Rattle.jser_reading.proofs.Reading.{begin_pieces}
 use Rattle.jser_reading.proofs.PlainVerdict.{plain_verdict, scanner}
 use Rattle.jser_reading.proofs.SpelledTokens.{spelled_law}
 use Rattle.jser_verdict.specs.Passing.{Passes}
@@ -26,6 +27,10 @@ use Rattle.jser_reader.proofs.ItemLaws.{tokens_begin_streams_law}
 use Rattle.jser_index.specs.Along.{IsStuck, Where, GoesAlong}
 use Rattle.jser_index.proofs.TurnLemmas.{whole}
 
+-- a gate that lets all tokens through
+abbrev all_tokens : TokenGate
+all_tokens label token = true
+
 -- the tokens so far, and those that are to come
 pub record BeginsList (front : List Piece) (list : ContentTrees) : Type 0 where
   pub later : List Piece
@@ -35,6 +40,19 @@ pub begins_list : (bytes rest : List ℕ) (front : List Piece) (cut : List ℕ) 
     → bytes ≡ (joined front ++ cut) ++ rest → StandsIn open_gate front cut r tally → Passes open_gate bytes list → BeginsList front list
 begins_list bytes rest front cut r tally list split st p =
     let x = tokens_begin_streams_law open_gate front cut r tally st rest list (sym split ∙ p.0.0, p.0.1) in
+    record { later = x.0; is = x.1 }
+
+all_pass : (tokens : List Piece) → AllPass all_tokens tokens
+all_pass [] = tt
+all_pass (piece label token ∷ tokens) = (refl, all_pass tokens)
+
+-- and so are tokens that may come one after another
+pub begins_runs : (bytes behind : List ℕ) (front : List Piece) (list : ContentTrees) → Runs begin_state front → bytes ≡ joined front ++ behind → Passes open_gate bytes list
+    → BeginsList front list
+begins_runs bytes behind front list runs split p =
+    let x =
+    begin_pieces all_tokens (plain_verdict all_tokens) (scanner all_tokens) front (tokens_of list) begin_state behind runs ((exact_law (tokens_of list)).1 (list, p.0.1, refl)) (all_pass front)
+    (sym split ∙ p.0.0 ∙ sym (spelled_law list p.0.1)) in
     record { later = x.0; is = x.1 }
 
 -- bytes that are a stream leave no token open
@@ -85,10 +103,6 @@ reached bytes rest r tally P list h p = goes h.where_it_is
     goes (inr s) = absurd (not_stuck bytes rest h.front h.cut r tally list h.split h.stands p s)
 
 -- ---- the end
-
--- a gate that lets all tokens through
-abbrev all_tokens : TokenGate
-all_tokens label token = true
 
 -- each token has bytes
 no_bytes : (label : Label) (token : StreamToken) → Accepts label token → bytes_of token ≡ [] → ⊥

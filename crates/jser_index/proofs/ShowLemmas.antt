@@ -1,5 +1,5 @@
 -- The text of show, said token by token along the bytes.
-use Rattle.std.proofs.Common.{◌≡◌, ◌⊎◌, inl, inr, ℕ, Bool, true, Option, List, [], ◌∷◌, ◌++◌, length, Result, Ok, Err, OnOk, OnErr, refl, sym, ◌∙◌, ap, subst, append_assoc, append-nil}
+use Rattle.std.proofs.Common.{◌≡◌, ℕ, Bool, true, Option, List, [], ◌∷◌, ◌++◌, length, Result, Ok, Err, OnOk, OnErr, refl, sym, ◌∙◌, ap, subst, append_assoc, append-nil}
 use Rattle.jser_prim.specs.Outgoing.{Outgoing, SinkState, Puts, sink_state}
 use Rattle.jser_prim.proofs.OutgoingLemmas.{puts_both, puts_stopped}
 use Rattle.jser_grammar.specs.Trees.{ContentTrees}
@@ -14,16 +14,14 @@ use Rattle.jser_shown.specs.Shown.{shown}
 use Rattle.jser_shown.specs.Telling.{begin_telling, settled, settle_says, goes, tell}
 use Rattle.jser_verdict.specs.Passing.{Passes}
 use Rattle.jser_reader.specs.Gates.{open_gate}
-use Rattle.jser_reader.specs.declared.Item.{Item}
 use Rattle.jser_reader.specs.declared.tally.Tally.{Tally}
 use Rattle.jser_reader.specs.Readers.{Seen}
 use Rattle.jser_printer.specs.Passing.{says_next}
 use Rattle.jser_printer.specs.Says.{Says, Begins, BeginsTo}
 use Rattle.jser_printer.proofs.SaysLemmas.{says_none, says_both, says_same}
-use Rattle.jser_index.specs.Along.{Ends, IsLength, InText, IsStuck, GoesAlong}
-use Rattle.jser_index.specs.Showing.{PutsText, PutsSome, PutsFront}
-use Rattle.jser_index.proofs.TurnLemmas.{Turn, Does}
-use Rattle.jser_index.proofs.PassLemmas.{begins_list, not_stuck, reached, reached_all}
+use Rattle.jser_index.specs.Along.{GoesAlong}
+use Rattle.jser_index.specs.Showing.{PutsText, PutsFront}
+use Rattle.jser_index.proofs.PassLemmas.{reached, reached_all}
 
 -- these tokens were said, and the walk is where the teller is after them
 pub record HasSaid (start : Teller) (old now : Outgoing) (before after : SinkState) (walk : Teller) (front : List Piece) : Type 0 where
@@ -61,7 +59,7 @@ err_any (Err e) q = q
 
 -- ---- a turn
 
-says_one : (start walk next : Teller) (front : List Piece) (label : Label) (told : StreamToken) (a b c : Outgoing) (d e f : SinkState) → OneMore
+pub says_one : (start walk next : Teller) (front : List Piece) (label : Label) (told : StreamToken) (a b c : Outgoing) (d e f : SinkState) → OneMore
     → HasSaid start a b d e walk front → Says b c e f (λ k. says_next walk told k) → next ≡ goes (settled walk) told
     → HasSaid start a c d f next (front ++ (piece label told ∷ []))
 says_one start walk next front label told a b c d e f more h says_it goes_on =
@@ -74,22 +72,10 @@ says_one start walk next front label told a b c d e f more h says_it goes_on =
           (says_both a b c d e f (λ k. said start front k) (λ k. says_next (teller_at start front) told k) h.text here);
     }
 
-pub does_say : (bytes rest : List ℕ) (lent : Item) (start walk next : Teller) (a b c : Outgoing) (d e f : SinkState) → OneMore
-    → ((told : StreamToken) → Ends lent told → Says b c e f (λ k. says_next walk told k)) → ((told : StreamToken) → Ends lent told → next ≡ goes (settled walk) told)
-    → (IsLength lent → Says b c e f (λ k. k) × (next ≡ walk)) → Does bytes rest lent (HasSaid start a b d e walk) (HasSaid start a c d f next)
-does_say bytes rest lent start walk next a b c d e f more says_it goes_on same = record {
-  ended = λ front label told comes ends size h.
-      says_one start walk next front label told a b c d e f more h (says_it told ends) (goes_on told ends);
-  same = λ l front h. record {
-    walk_is = (same l).1 ∙ h.walk_is;
-    text = says_both a b c d e f (λ k. said start front k) (λ k. k) h.text (same l).0;
-  };
-}
-
 -- ---- what was said of a stream
 
 -- after a failure any text counts as put
-put_behind : (a b : Outgoing) (d e : SinkState) (xs ys : List ℕ) → Puts a b d e xs → b.failed ≡ true → Puts a b d e (xs ++ ys)
+pub put_behind : (a b : Outgoing) (d e : SinkState) (xs ys : List ℕ) → Puts a b d e xs → b.failed ≡ true → Puts a b d e (xs ++ ys)
 put_behind a b d e xs ys h off = puts_both a b b d e e xs ys h (puts_stopped b e ys off)
 
 -- the laws by which what is said is the text
@@ -101,20 +87,10 @@ pub show_laws : Told → TellsFronts → ShowLaws
 show_laws t f = record { told = t; fronts = f }
 
 -- what is left of the text after some first tokens
-text_after : (values : Bool) (start : Teller) (list : ContentTrees) (bytes : List ℕ) (front later : List Piece) → ShowLaws → Passes open_gate bytes list → start ≡ begin_telling values (owners_of list)
+pub text_after : (values : Bool) (start : Teller) (list : ContentTrees) (bytes : List ℕ) (front later : List Piece) → ShowLaws → Passes open_gate bytes list → start ≡ begin_telling values (owners_of list)
     → tokens_of list ≡ front ++ later → shown values list ≡ said start front (tell (teller_at start front) later)
 text_after values start list bytes front later laws p begin is =
     sym (laws.told values list p.0.1) ∙ ap (λ s. tell s (tokens_of list)) (sym begin) ∙ ap (tell start) is ∙ laws.fronts start front later
-
--- the sink has failed
-pub says_stopped : (bytes rest : List ℕ) (r : Seen) (tally : Tally) (start walk : Teller) (a b : Outgoing) (d e : SinkState) → ShowLaws
-    → SaysAlong bytes rest r tally start a b d e walk → b.failed ≡ true → PutsText bytes start a b d e
-unfolding PutsText
-says_stopped bytes rest r tally start walk a b d e laws h off = λ values list p begin.
-    let x = reached bytes rest r tally (HasSaid start a b d e walk) list h p in
-    let left = tell (teller_at start x.front) x.begins.later in
-    let is = text_after values start list bytes x.front x.begins.later laws p begin x.begins.is ∙ x.holds.text.is left in
-    subst (Puts a b d e) (sym is) (put_behind a b d e x.holds.text.bytes left x.holds.text.puts off)
 
 -- nothing more is read
 pub says_front : (bytes rest : List ℕ) (r : Seen) (tally : Tally) (start walk : Teller) (a b : Outgoing) (d e : SinkState) → ShowLaws
@@ -129,35 +105,6 @@ says_front bytes rest r tally start walk a b d e laws h = λ values list p begin
       split = text_after values start list bytes x.front x.begins.later laws p begin x.begins.is ∙ x.holds.text.is left;
       puts = x.holds.text.puts;
     }
-
--- memory ran out within an item
-pub item_front : (bytes rest : List ℕ) (lent : Item) (r : Seen) (tally : Tally) (start walk : Teller) (a b c : Outgoing) (d e f : SinkState) → OneMore → ShowLaws
-    → Turn bytes rest lent r tally (HasSaid start a b d e walk) → ((told : StreamToken) → Ends lent told → Begins b c e f (λ k. says_next walk told k))
-    → (IsLength lent → ⊥) → PutsFront bytes start a c d f
-unfolding PutsFront
-item_front bytes rest lent r tally start walk a b c d e f more laws (inl x) part none = λ values list p begin.
-    let all = x.front ++ (piece x.label x.told ∷ []) in
-    let h = x.before in
-    let begun = part x.told x.ends in
-    let so_far = begins_list bytes rest all [] r tally list x.split x.stands p in
-    let one = more start x.front x.label x.told in
-    let to_come = tell (teller_at start all) so_far.later in
-    record {
-      front = h.text.bytes ++ begun.said.bytes;
-      left = begun.left to_come;
-      split =
-          text_after values start list bytes all so_far.later laws p begin so_far.is ∙ one.1 to_come
-          ∙ ap (λ w. said start x.front (says_next w x.told to_come)) (sym h.walk_is)
-          ∙ h.text.is (says_next walk x.told to_come)
-          ∙ ap (λ xs. h.text.bytes ++ xs) (begun.said.is to_come) ∙ sym (append_assoc h.text.bytes begun.said.bytes (begun.left to_come));
-      puts = puts_both a b c d e f h.text.bytes begun.said.bytes h.text.puts begun.said.puts;
-    }
-item_front bytes rest lent r tally start walk a b c d e f more laws (inr x) part none = λ values list p begin. goes values list p x.goes_on
-  where
-    goes : (values : Bool) (list : ContentTrees) → Passes open_gate bytes list → (IsLength lent × InText x.front x.cut × HasSaid start a b d e walk x.front) ⊎ IsStuck open_gate x.front x.cut rest
-        → PutsSome a c d f (shown values list)
-    goes values list p (inl y) = absurd (none y.0)
-    goes values list p (inr s) = absurd (not_stuck bytes rest x.front x.cut r tally list x.split x.stands p s)
 
 -- ---- the end
 

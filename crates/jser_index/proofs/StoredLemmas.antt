@@ -14,9 +14,9 @@ use Rattle.jser_index.specs.declared.node.NodeKind.{NodeKind}
 use Rattle.jser_index.specs.declared.node.NodeKind.TheVariants as kind
 use Rattle.jser_index.specs.declared.node.StoredNode.{StoredNode}
 use Rattle.jser_index.specs.declared.spot.Spot.{Spot}
-use Rattle.jser_index.specs.Keeping.{Kept, Extends, IsIn, IsKeptAt, HasTextAt, units_at}
+use Rattle.jser_index.specs.Keeping.{Kept, Extends, HasTextAt, units_at}
 use Rattle.jser_index.specs.StoredNodes.{view_kind, units_in, view_node, spot_in, HasUnits, IsAmong, IsStored, AddsNode}
-use Rattle.jser_index.proofs.KeptLemmas.{extends_none, stays, stays_in}
+use Rattle.jser_index.proofs.KeptLemmas.{stays, stays_in}
 
 -- the units of one more string
 

@@ -1,16 +1,13 @@
 -- Going along the items that a reader lends of a slice of bytes: which tokens they end, and where the reader stands.
-use Rattle.std.specs.Prelude.{ℕ, zero, suc, ◌+◌, ◌≡◌, ◌≢◌, ◌⊎◌, ◌<◌, Bool, List, [], ◌∷◌, ◌++◌, length}
-use Rattle.jser_grammar.specs.Wire.{TC_REFERENCE, TC_STRING}
+use Rattle.std.specs.Prelude.{ℕ, zero, suc, ◌≡◌, ◌≢◌, ◌⊎◌, ◌<◌, Bool, List, [], ◌++◌, length}
 use Rattle.jser_prim.specs.ModifiedUtf8.{IsUnits, modified_utf8}
-use Rattle.jser_reading.specs.Labels.{StreamToken, text_token, Label, Piece, piece}
-use Rattle.jser_reading.specs.TokenBytes.{bytes_of, joined}
+use Rattle.jser_reading.specs.Labels.{StreamToken, text_token, Label, Piece}
+use Rattle.jser_reading.specs.TokenBytes.{joined}
 use Rattle.jser_reading.specs.TokensFromBytes.{head_size}
 use Rattle.jser_reading.specs.ComesNext.{ComesNext}
 use Rattle.jser_verdict.specs.Gates.{Gate}
 use Rattle.jser_reader.specs.declared.Item.{Item}
 use Rattle.jser_reader.specs.declared.Item.TheVariants as item
-use Rattle.jser_reader.specs.declared.Whole.{Whole}
-use Rattle.jser_reader.specs.declared.Whole.TheVariants as whole
 use Rattle.jser_reader.specs.declared.tally.Tally.{Tally}
 use Rattle.jser_reader.specs.Readers.{Seen}
 use Rattle.jser_reader.specs.Items.{items_at, text_items}
@@ -91,25 +88,6 @@ pub record IsStuck (gate : Gate) (front : List Piece) (cut rest : List ℕ) : Ty
   pub some : cut ≢ []
   pub at_end : (rest ≡ []) ⊎ (length (joined front ++ cut) ≡ gate.bytes)
 
--- a token has ended with the item
-pub record TokenTaken (gate : Gate) (front : List Piece) (cut taken : List ℕ) (lent : Item) (r : Seen) (tally : Tally) : Type 0 where
-  pub label : Label
-  pub comes : ComesNext front label
-  pub told : StreamToken
-  pub ends : Ends lent told
-  pub bytes : bytes_of told ≡ cut ++ taken
-  pub stands : StandsIn gate (front ++ (piece label told ∷ [])) [] r tally
-
--- the token goes on
-pub record TokenOpen (gate : Gate) (front : List Piece) (cut taken rest : List ℕ) (lent : Item) (r : Seen) (tally : Tally) : Type 0 where
-  pub stands : StandsIn gate front (cut ++ taken) r tally
-  pub goes_on : (IsLength lent × InText front (cut ++ taken)) ⊎ IsStuck gate front (cut ++ taken) rest
-
--- what an item does
-abbrev pub Moves : Gate → (front : List Piece) (cut taken rest : List ℕ) → Item → Seen → Tally → Type 0
-Moves gate front cut taken rest lent r tally =
-    TokenTaken gate front cut taken lent r tally ⊎ TokenOpen gate front cut taken rest lent r tally
-
 -- so far along the bytes: this holds of the tokens that the reader took; or nothing more can come
 abbrev pub Where : Gate → (P : List Piece → Type 0) → (front : List Piece) (cut rest : List ℕ) → Type 0
 Where gate P front cut rest = (Between front cut × P front) ⊎ IsStuck gate front cut rest
@@ -125,9 +103,3 @@ pub record GoesAlong (gate : Gate) (bytes rest : List ℕ) (r : Seen) (tally : T
 -- a reader under the open gate that has taken nothing
 abbrev pub BeginsAt : Reading OpenGate → Type 0
 BeginsAt reader = StandsIn open_gate [] [] reader.machine reader.tally
-
--- the items of a value that is lent at once
-abbrev pub items_of : Whole → List Item
-items_of (whole.Reference handle) = item.Tag TC_REFERENCE ∷ item.Handle handle ∷ []
-items_of (whole.String text) = item.Tag TC_STRING ∷ item.TextPart text ∷ []
-items_of (whole.Owner tag class) = item.Tag tag ∷ item.Tag TC_REFERENCE ∷ item.Handle class ∷ []

@@ -1,5 +1,5 @@
 -- Reading the units of a text, all bytes at once where each is a unit.
-use Rattle.std.specs.Prelude.{ℕ, ◌≡◌, ◌+◌, ◌<◌, ◌≤◌, Bool, true, List, [], ◌∷◌, ◌++◌, length, slice_index, take, drop}
+use Rattle.std.specs.Prelude.{ℕ, ◌≡◌, ◌+◌, ◌<◌, ◌≤◌, Bool, true, List, length, slice_index, take, drop}
 
 -- the bytes stand as units at the front of the room, and each of them is below 0x80
 pub record AreNarrow (bytes room : List ℕ) : Type 0 where

@@ -1,5 +1,5 @@
 -- What an index hands out.
-use Rattle.std.specs.Prelude.{ℕ, ◌≡◌, ◌<◌, ◌≤◌, List, length, take, Option}
+use Rattle.std.specs.Prelude.{ℕ, ◌≤◌, List, length, take, Option}
 use Rattle.std.specs.Io.KnownBytes.{Appends}
 use Rattle.jser_index.specs.declared.output.GraphFault.{GraphFault}
 use Rattle.jser_index.specs.declared.output.GraphFault.TheVariants as fault

@@ -1,5 +1,5 @@
 -- The first walk along the bytes of a stream: where it stands, and what it has found at the end.
-use Rattle.std.specs.Prelude.{ℕ, ◌≡◌, ◌⊎◌, ◌≤◌, List, length, take, Result, Ok, Err}
+use Rattle.std.specs.Prelude.{ℕ, ◌≡◌, List, Result, Ok, Err}
 use Rattle.jser_grammar.specs.Trees.{ContentTrees}
 use Rattle.jser_grammar.specs.CheckedNames.{checked_names}
 use Rattle.jser_shown.specs.Nodes.{nodes_of}
@@ -22,11 +22,6 @@ use Rattle.jser_index.specs.Surveying.{IsAt}
 -- so far along the bytes, with a survey of the tokens
 abbrev pub SurveysAlong : (bytes rest : List ℕ) → Seen → Tally → Finding → Type 0
 SurveysAlong bytes rest r tally survey = GoesAlong open_gate bytes rest r tally (λ front. IsAt front survey)
-
--- from what comes next of the bytes it went on to this rest of them
-unfoldable pub SurveysOn : (bytes given rest : List ℕ) → Seen → Tally → Finding → Seen → Tally → Finding → Type 0
-SurveysOn bytes given rest old before survey new after now =
-    SurveysAlong bytes given old before survey → SurveysAlong bytes rest new after now
 
 -- The bytes are a stream of this list that passes, and what was found is that of the list.
 pub record IsOfList (bytes : List ℕ) (survey : Finding) (totals : Totals) (list : ContentTrees) : Type 0 where

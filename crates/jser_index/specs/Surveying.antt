@@ -1,5 +1,5 @@
 -- A first walk along the tokens of a stream, as code makes it.
-use Rattle.std.specs.Prelude.{ℕ, ◌≡◌, ◌+◌, ◌-◌, ◌<◌, List, [], ◌∷◌, ◌++◌, Some, true, length}
+use Rattle.std.specs.Prelude.{ℕ, ◌≡◌, ◌+◌, ◌-◌, List, [], ◌∷◌, ◌++◌, Some, true, length}
 use Rattle.jser_prim.specs.ModifiedUtf8.{IsUnits, modified_utf8}
 use Rattle.jser_grammar.specs.Wire.{TC_REFERENCE, TC_STRING}
 use Rattle.jser_reading.specs.TokenBytes.{bytes_of, joined}
@@ -8,12 +8,12 @@ use Rattle.jser_shown.specs.Nodes.{place_after, text_node}
 use Rattle.jser_shown.specs.Finding.{Finding, begin_finding, find, found}
 use Rattle.jser_shown.specs.Finding.{Begun as ToldBegun}
 use Rattle.jser_index.specs.declared.begun.Begun.{Begun}
+use Rattle.jser_reader.specs.declared.Item.{Item}
 use Rattle.jser_reader.specs.declared.Whole.{Whole}
 use Rattle.jser_reader.specs.declared.Whole.TheVariants as whole
-use Rattle.jser_reader.specs.RawsTold.{AreRaws}
 use Rattle.jser_printer.specs.declared.Token.TheVariants as lent
 use Rattle.jser_printer.specs.Given.{IsOf}
-use Rattle.jser_index.specs.Along.{IsTextOf}
+use Rattle.jser_index.specs.Along.{Ends, IsLength, IsTextOf}
 use Rattle.jser_index.specs.StoredNodes.{view_kind}
 
 -- a tag whose node is not made yet
@@ -43,10 +43,11 @@ pub record GoesPast (is : StreamToken → Type 0) (assigned end : ℕ) (old new 
   pub finds : (told : StreamToken) → is told → place_after old.place (bytes_of told) ≡ end → new ≡ find assigned told old
   pub place : new.place ≡ end
 
--- it went past raw values, which end at this place, and before which so many handles of the epoch were assigned
-pub record GoesPastRaws (assigned end : ℕ) (old new : Finding) : Type 0 where
-  pub finds : (raws : List Piece) → AreRaws assigned raws → 0 < length raws → place_after old.place (joined raws) ≡ end → new ≡ found old raws
-  pub place : new.place ≡ end
+-- what it did with an item, which ends there, and before which so many handles of the epoch were assigned
+pub record Took (lent : Item) (assigned end : ℕ) (old new : Finding) : Type 0 where
+  pub finds : (told : StreamToken) → Ends lent told → place_after old.place (bytes_of told) ≡ end → new ≡ find assigned told old
+  pub same : IsLength lent → new ≡ old
+  pub place : (told : StreamToken) → Ends lent told → new.place ≡ end
 
 -- it went past two tokens, one after another
 pub record GoesPastBoth (one other : StreamToken → Type 0) (assigned next middle end : ℕ) (old new : Finding) : Type 0 where

@@ -1,10 +1,8 @@
 //! What a reader lends of a stream that it is given in one piece: tokens, or the bytes of texts.
-ghost use Rattle.std.specs.Prelude.{◌≡◌};
 ghost use Rattle.jser_index.specs.Along.{IsPartOf};
-ghost use Rattle.jser_reader.specs.Visits.{whole_size};
 
 use jser_printer::Token;
-use jser_reader::{Item, Whole};
+use jser_reader::Item;
 
 /// A token, or what leads to one.
 #[derive(Clone, Copy)]
@@ -37,17 +35,5 @@ pub(crate) fn part_of(item: Item<'_>) -> Part<'_>
         Item::ArrayLength(length) => Part::Token(Token::ArrayLength(length)),
         Item::BlockLength(length) => Part::Token(Token::BlockLength(length)),
         Item::RawPart(bytes) => Part::Token(Token::Raw(bytes)),
-    }
-}
-
-/// How many bytes a value has that is lent at once.
-#[inline(always)]
-pub(crate) fn size_of(whole: Whole<'_>) -> usize
-    ensures { result ≡ whole_size whole.entry }
-{
-    match whole {
-        Whole::Reference(_) => 5,
-        Whole::String(text) => text.len() + 3,
-        Whole::Owner { .. } => 6,
     }
 }

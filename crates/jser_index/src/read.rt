@@ -1,15 +1,15 @@
 //! Goes along the bytes of a stream, and finds what a graph keeps of it.
-ghost use Rattle.std.specs.Prelude.{◌≡◌, ◌≤◌, length, IfOk};
-ghost use Rattle.jser_shown.specs.Finding.{begin_finding};
+ghost use Rattle.std.specs.Prelude.{◌≡◌, OnOk};
+ghost use Rattle.jser_shown.specs.Finding.{begin_finding, finished};
 ghost use Rattle.jser_index.specs.Along.{BeginsAt};
-ghost use Rattle.jser_index.specs.Reading.{Walks, Surveys, SurveysOn};
+ghost use Rattle.jser_index.specs.Reading.{Walks, Surveys};
 
-use crate::part::size_of;
 use crate::survey::Survey;
-use jser_reader::{OpenGate, Reader, Step, Stop, Totals, Whole};
+use jser_reader::{FeedFault, Item, OpenGate, Reader, Stop, Totals, Visit, Whereabouts, Whole};
 use jser_reading::laws::one_reading;
 use jser_shown::laws::{finds_fronts, found, places_are_counted};
 use std::alloc::{AllocError, Global};
+use std::marker::Model;
 
 /// What is found along a stream, and its counts.
 #[derive(Drop)]
@@ -18,115 +18,110 @@ pub(crate) struct Found {
     pub(crate) totals: Totals,
 }
 
+/// A survey that is shown the items of a stream, with room for the units of a text.
+#[derive(Drop)]
+struct Surveyor {
+    survey: Survey,
+    units: Vec<u16>,
+}
+
+impl Model for Surveyor {
+    ghost use Rattle.jser_shown.specs.Finding.{Finding};
+
+    ghost Value = { Finding };
+
+    ghost view = { λ a. a.survey };
+}
+
+impl Surveyor {
+    /// Before the first token. Takes no memory.
+    fn new(alloc: Global) -> Surveyor
+        ensures { result ≡ begin_finding }
+    {
+        Surveyor {
+            survey: Survey::new(alloc),
+            units: Vec::new(alloc),
+        }
+    }
+
+    /// The end of the stream.
+    fn finish(&mut self) -> Result<(), AllocError>
+        ensures { OnOk result (self.new ≡ finished self.old) }
+    {
+        self.survey.finish()
+    }
+
+    /// What it has found. Takes no memory.
+    fn into_survey(self) -> Survey
+        ensures { result ≡ self }
+    {
+        let Surveyor { survey, .. } = self;
+        survey
+    }
+}
+
+impl Visit for Surveyor {
+    ghost use Rattle.jser_index.specs.Surveying.{Took};
+
+    type Fault = AllocError;
+
+    ghost takes = { λ item at old new. Took item at.handles at.end old new };
+
+    ghost stops = { λ _ _ _ _. Unit {0} };
+
+    #[tactic(auto, using(crate::proofs::TookLemmas::took))]
+    #[inline(always)]
+    fn item(&mut self, item: Item<'_>, at: Whereabouts) -> Result<(), AllocError> {
+        self.survey
+            .item(item, &mut self.units, at.handles as usize, at.end)?;
+        Ok(())
+    }
+
+    #[tactic(auto, using(crate::proofs::TookLemmas::took_whole))]
+    #[inline(always)]
+    fn whole(&mut self, whole: Whole<'_>, at: Whereabouts) -> Result<(), AllocError> {
+        self.survey
+            .whole(whole, &mut self.units, at.handles as usize, at.end)?;
+        Ok(())
+    }
+}
+
 /// Goes along the bytes, if they are a stream.
 #[tactic(auto, using(crate::proofs::ReadLemmas::found_ok, crate::proofs::ReadLemmas::found_err))]
 pub(crate) fn survey(alloc: Global, bytes: &[u8]) -> Result<Found, Stop>
     ensures { Surveys bytes.now result }
 {
     let mut reader = Reader::new(alloc, OpenGate);
-    let mut survey = Survey::new(alloc);
-    let mut units = Vec::new(alloc);
-    match survey_along(&mut reader, &mut survey, &mut units, bytes) {
-        Ok(totals) => Ok(Found { survey, totals }),
+    let mut surveyor = Surveyor::new(alloc);
+    match survey_along(&mut reader, &mut surveyor, bytes) {
+        Ok(totals) => Ok(Found {
+            survey: surveyor.into_survey(),
+            totals,
+        }),
         Err(stop) => Err(stop),
     }
 }
 
-/// Goes past the raw values that come next of these bytes, if there are any, and returns what comes after them.
-#[inline(always)]
-fn pass_raws<'b>(
-    reader: &mut Reader<OpenGate>,
-    survey: &mut Survey,
-    bytes: &[u8],
-    given: &'b [u8],
-) -> Result<&'b [u8], AllocError>
-    ensures within { IfOk result (λ rest. length rest.now ≤ length given.now) }
-    ensures surveys { IfOk result (λ rest. SurveysOn bytes.now given.now rest.now reader.old.machine reader.old.tally survey.old reader.new.machine reader.new.tally survey.new) }
-{
-    finds_fronts();
-    places_are_counted();
-    let assigned = reader.epoch_handles() as usize;
-    if !survey.is_close(assigned) {
-        return Ok(given);
-    }
-    match reader.skip_raws(given) {
-        None => Ok(given),
-        Some(used) => {
-            let (_, rest) = given.split_at(used);
-            let end = bytes.len().saturating_sub(rest.len()) as u64;
-            survey.pass(assigned, end)?;
-            Ok(rest)
-        }
-    }
-}
-
-/// After a value that was lent at once, goes past the raw values that come next of these bytes, where it is the beginning of
-/// what may have some, and returns what comes after them.
-#[tactic(auto, using(crate::proofs::RawsLemmas::raws_not))]
-#[inline(always)]
-fn pass_behind<'b>(
-    reader: &mut Reader<OpenGate>,
-    survey: &mut Survey,
-    bytes: &[u8],
-    given: &'b [u8],
-    whole: Whole<'_>,
-) -> Result<&'b [u8], AllocError>
-    ensures within { IfOk result (λ rest. length rest.now ≤ length given.now) }
-    ensures surveys { IfOk result (λ rest. SurveysOn bytes.now given.now rest.now reader.old.machine reader.old.tally survey.old reader.new.machine reader.new.tally survey.new) }
-{
-    match whole {
-        Whole::Owner { .. } => pass_raws(reader, survey, bytes, given),
-        Whole::Reference(_) | Whole::String(_) => Ok(given),
-    }
-}
-
-/// Goes along the bytes with a new reader, and lets the survey go along their tokens.
+/// Goes along the bytes with a new reader, which shows their items to the surveyor.
 fn survey_along(
     reader: &mut Reader<OpenGate>,
-    survey: &mut Survey,
-    units: &mut Vec<u16>,
+    surveyor: &mut Surveyor,
     bytes: &[u8],
 ) -> Result<Totals, Stop>
     requires reader { BeginsAt reader.old }
-    requires survey { survey.old ≡ begin_finding }
-    ensures { Walks bytes.now survey.new result }
+    requires survey { surveyor.old ≡ begin_finding }
+    ensures { Walks bytes.now surveyor.new result }
 {
     one_reading();
     found();
     finds_fronts();
     places_are_counted();
-    let mut rest = bytes;
-    'items: while !rest.is_empty() {
-        let assigned = reader.epoch_handles() as usize;
-        match reader.next_whole(rest) {
-            Err(stop) => return Err(stop),
-            Ok(Some(whole)) => {
-                let (_, after) = rest.split_at(size_of(whole));
-                let end = (bytes.len() - after.len()) as u64;
-                match survey.whole(whole, units, assigned, end) {
-                    Ok(()) => match pass_behind(reader, survey, bytes, after, whole) {
-                        Ok(more) => rest = more,
-                        Err(_) => return Err(Stop::OutOfMemory),
-                    },
-                    Err(_) => return Err(Stop::OutOfMemory),
-                }
-            }
-            Ok(None) => match reader.next(rest) {
-                Err(stop) => return Err(stop),
-                Ok(Step::More) => rest = &[],
-                Ok(Step::Item { item, used }) => {
-                    let (_, after) = rest.split_at(used);
-                    let end = (bytes.len() - after.len()) as u64;
-                    match survey.item(item, units, assigned, end) {
-                        Ok(()) => rest = after,
-                        Err(_) => return Err(Stop::OutOfMemory),
-                    }
-                }
-            },
-        }
-    }
-    match survey.finish() {
-        Ok(()) => reader.finish(),
-        Err(_) => Err(Stop::OutOfMemory),
+    match reader.feed(bytes, surveyor) {
+        Err(FeedFault::Reader(stop)) => Err(stop),
+        Err(FeedFault::Visitor(_)) => Err(Stop::OutOfMemory),
+        Ok(()) => match surveyor.finish() {
+            Ok(()) => reader.finish(),
+            Err(_) => Err(Stop::OutOfMemory),
+        },
     }
 }

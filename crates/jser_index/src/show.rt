@@ -5,18 +5,17 @@ ghost use Rattle.jser_shown.specs.Telling.{begin_telling, goes, settled};
 ghost use Rattle.jser_printer.specs.Given.{IsOf};
 ghost use Rattle.jser_printer.specs.Passing.{says_next};
 ghost use Rattle.jser_printer.specs.Says.{BeginsTo, SaysTo};
-ghost use Rattle.jser_index.specs.Along.{BeginsAt, Ends, IsLength, IsTextOf, items_of};
+ghost use Rattle.jser_index.specs.Along.{BeginsAt, Ends, IsLength, IsTextOf};
+ghost use Rattle.jser_index.specs.SaidItems.{HoldsOn};
 ghost use Rattle.jser_index.specs.Showing.{CountsText, WroteText, WroteFront, FailedIf, PutsTextTo, PutsFrontTo};
-ghost use Rattle.jser_index.specs.SaidItems.{SaysItemsTo, BeginsItemsTo};
 
 use crate::decode::decode;
 use crate::graph::Index;
 use crate::output::GraphFault;
-use crate::part::{Part, part_of, size_of};
-use jser_grammar::wire::{TC_REFERENCE, TC_STRING};
+use crate::part::{Part, part_of};
 use jser_prim::{Outbox, Sink};
 use jser_printer::{Plain, Printer, Token};
-use jser_reader::{Item, OpenGate, Reader, Step, Whole};
+use jser_reader::{FeedFault, Item, OpenGate, Reader, Visit, Whereabouts};
 use jser_shown::laws::{one_more, tells_fronts, told};
 use std::alloc::{AllocError, Global};
 
@@ -76,7 +75,7 @@ impl<'b> Index<'b> {
         let mut reader = Reader::new(alloc, OpenGate);
         let mut printer = Printer::new(alloc, values, &self.owners);
         let mut units = Vec::new(alloc);
-        write_along(
+        write_bytes(
             outbox,
             sink,
             &mut reader,
@@ -87,8 +86,54 @@ impl<'b> Index<'b> {
     }
 }
 
-/// Writes the text of a stream along its bytes, until the sink fails. `units` is room for those of a text.
-fn write_along<W: Sink>(
+/// Why the text is not written to its end.
+#[derive(Clone, Copy)]
+pub(crate) enum Halt {
+    /// The sink failed.
+    Sink,
+    /// Memory ran out.
+    OutOfMemory,
+}
+
+/// Writes the tokens of the items that it is shown, until the sink fails. `units` is room for those of a text.
+#[derive(Drop)]
+struct Writer<'x, 's, 'p, 'o, 'u, W: Sink> {
+    outbox: &'x mut Outbox,
+    sink: &'s mut W,
+    printer: &'p mut Printer<'o>,
+    units: &'u mut Vec<u16>,
+}
+
+impl<W: Sink> Visit for Writer<'_, '_, '_, '_, '_, W> {
+    ghost use Rattle.jser_index.specs.SaidItems.{SaysItemTo, HaltsTo, HoldsOn};
+
+    type Fault = Halt;
+
+    ghost takes = { λ item at old new. SaysItemTo W.gone_out W.has_failed item old.outbox.now new.outbox.now old.sink.now new.sink.now old.printer.now new.printer.now
+        × HoldsOn old new };
+
+    ghost stops = { λ item why old new. HaltsTo W.gone_out W.has_failed why item old.outbox.now new.outbox.now old.sink.now new.sink.now old.printer.now
+        × HoldsOn old new };
+
+    #[tactic(auto, using(crate::proofs::SaidLemmas::says_item, crate::proofs::SaidLemmas::begins_item))]
+    #[inline(always)]
+    fn item(&mut self, item: Item<'_>, _: Whereabouts) -> Result<(), Halt> {
+        if self.outbox.has_failed() {
+            return Err(Halt::Sink);
+        }
+        match write_item(self.outbox, self.sink, self.printer, self.units, item) {
+            Ok(()) => Ok(()),
+            Err(AllocError) => Err(Halt::OutOfMemory),
+        }
+    }
+}
+
+/// Writes the text of a stream, until the sink fails. `units` is room for those of a text.
+///
+/// # Errors
+///
+/// Where memory ran out. What was written before is a beginning of the text.
+fn write_bytes<W: Sink>(
     outbox: &mut Outbox,
     sink: &mut W,
     reader: &mut Reader<OpenGate>,
@@ -100,34 +145,40 @@ fn write_along<W: Sink>(
     ensures said { OnOk result (PutsTextTo W.gone_out W.has_failed bytes.now printer.old outbox.old outbox.new sink.old sink.new) }
     ensures front { OnErr result (PutsFrontTo W.gone_out W.has_failed bytes.now printer.old outbox.old outbox.new sink.old sink.new) }
 {
+    let mut writer = Writer {
+        outbox,
+        sink,
+        printer,
+        units,
+    };
+    write_along(reader, &mut writer, bytes)
+}
+
+/// Writes the text of a stream along its bytes, with a new reader, until the sink fails.
+///
+/// # Errors
+///
+/// Where memory ran out. What was written before is a beginning of the text.
+fn write_along<W: Sink>(
+    reader: &mut Reader<OpenGate>,
+    writer: &mut Writer<'_, '_, '_, '_, '_, W>,
+    bytes: &[u8],
+) -> Result<(), AllocError>
+    requires { BeginsAt reader.old }
+    ensures said { OnOk result (PutsTextTo W.gone_out W.has_failed bytes.now writer.old.printer.now writer.old.outbox.now writer.new.outbox.now writer.old.sink.now writer.new.sink.now) }
+    ensures front { OnErr result (PutsFrontTo W.gone_out W.has_failed bytes.now writer.old.printer.now writer.old.outbox.now writer.new.outbox.now writer.old.sink.now writer.new.sink.now) }
+    ensures holds { HoldsOn writer.old writer.new }
+{
     one_more();
     tells_fronts();
     told();
-    let mut rest = bytes;
-    'items: while !rest.is_empty() {
-        if outbox.has_failed() {
-            return Ok(());
-        }
+    match reader.feed(bytes, writer) {
         // The bytes were accepted before, by a reader like this one, so nothing is refused here.
-        match reader.next_whole(rest) {
-            Err(_) => return Err(AllocError),
-            Ok(Some(whole)) => {
-                let (_, after) = rest.split_at(size_of(whole));
-                write_whole(outbox, sink, printer, units, whole)?;
-                rest = after;
-            }
-            Ok(None) => match reader.next(rest) {
-                Err(_) => return Err(AllocError),
-                Ok(Step::More) => rest = &[],
-                Ok(Step::Item { item, used }) => {
-                    let (_, after) = rest.split_at(used);
-                    write_item(outbox, sink, printer, units, item)?;
-                    rest = after;
-                }
-            },
-        }
+        Err(FeedFault::Reader(_)) => Err(AllocError),
+        Err(FeedFault::Visitor(Halt::OutOfMemory)) => Err(AllocError),
+        Err(FeedFault::Visitor(Halt::Sink)) => Ok(()),
+        Ok(()) => writer.printer.write_all_due(writer.outbox, writer.sink),
     }
-    printer.write_all_due(outbox, sink)
 }
 
 /// Writes the token that an item ends, with all that is due before it.
@@ -135,6 +186,7 @@ fn write_along<W: Sink>(
 /// # Errors
 ///
 /// Where memory runs out. What was written before is a beginning of that.
+#[inline(always)]
 fn write_item<W: Sink>(
     outbox: &mut Outbox,
     sink: &mut W,
@@ -156,73 +208,6 @@ fn write_item<W: Sink>(
         Part::Text(bytes) => write_text(outbox, sink, printer, units, bytes),
         Part::Length => Ok(()),
     }
-}
-
-/// Writes the tokens of a value that is lent at once, each with all that is due before it.
-///
-/// # Errors
-///
-/// Where memory runs out. What was written before is a beginning of that.
-#[inline(always)]
-fn write_whole<W: Sink>(
-    outbox: &mut Outbox,
-    sink: &mut W,
-    printer: &mut Printer<'_>,
-    units: &mut Vec<u16>,
-    whole: Whole<'_>,
-) -> Result<(), AllocError>
-    ensures said { OnOk result (SaysItemsTo W.gone_out W.has_failed (items_of whole.entry) outbox.old outbox.new sink.old sink.new printer.old printer.new) }
-    ensures front { OnErr result (BeginsItemsTo W.gone_out W.has_failed (items_of whole.entry) outbox.old outbox.new sink.old sink.new printer.old) }
-{
-    match whole {
-        Whole::Reference(handle) => write_reference(outbox, sink, printer, handle),
-        Whole::String(text) => write_string(outbox, sink, printer, units, text),
-        Whole::Owner { tag, class } => write_owner(outbox, sink, printer, tag, class),
-    }
-}
-
-/// Writes a reference.
-fn write_reference<W: Sink>(
-    outbox: &mut Outbox,
-    sink: &mut W,
-    printer: &mut Printer<'_>,
-    handle: u32,
-) -> Result<(), AllocError>
-    ensures said { OnOk result (SaysItemsTo W.gone_out W.has_failed (items_of (Whole.Reference handle)) outbox.old outbox.new sink.old sink.new printer.old printer.new) }
-    ensures front { OnErr result (BeginsItemsTo W.gone_out W.has_failed (items_of (Whole.Reference handle)) outbox.old outbox.new sink.old sink.new printer.old) }
-{
-    printer.write_next(outbox, sink, Token::Tag(TC_REFERENCE))?;
-    printer.write_next(outbox, sink, Token::Handle(handle))
-}
-
-/// Writes a string.
-fn write_string<W: Sink>(
-    outbox: &mut Outbox,
-    sink: &mut W,
-    printer: &mut Printer<'_>,
-    units: &mut Vec<u16>,
-    text: &[u8],
-) -> Result<(), AllocError>
-    ensures said { OnOk result (SaysItemsTo W.gone_out W.has_failed (items_of (Whole.String text.entry)) outbox.old outbox.new sink.old sink.new printer.old printer.new) }
-    ensures front { OnErr result (BeginsItemsTo W.gone_out W.has_failed (items_of (Whole.String text.entry)) outbox.old outbox.new sink.old sink.new printer.old) }
-{
-    printer.write_next(outbox, sink, Token::Tag(TC_STRING))?;
-    write_text(outbox, sink, printer, units, text)
-}
-
-/// Writes the tag of what has a class, and the reference that is its class.
-fn write_owner<W: Sink>(
-    outbox: &mut Outbox,
-    sink: &mut W,
-    printer: &mut Printer<'_>,
-    tag: u8,
-    class: u32,
-) -> Result<(), AllocError>
-    ensures said { OnOk result (SaysItemsTo W.gone_out W.has_failed (items_of (Whole.Owner tag class)) outbox.old outbox.new sink.old sink.new printer.old printer.new) }
-    ensures front { OnErr result (BeginsItemsTo W.gone_out W.has_failed (items_of (Whole.Owner tag class)) outbox.old outbox.new sink.old sink.new printer.old) }
-{
-    printer.write_next(outbox, sink, Token::Tag(tag))?;
-    write_reference(outbox, sink, printer, class)
 }
 
 /// Writes a text from its bytes, with all that is due before it. The bytes of most texts stand for themselves.

@@ -6,7 +6,7 @@ ghost use Rattle.jser_shown.specs.Finding.{begin_finding, begun_by, find, finish
 ghost use Rattle.jser_shown.specs.Nodes.{place_after};
 ghost use Rattle.jser_printer.specs.Given.{IsOf, view_nodes};
 ghost use Rattle.jser_index.specs.Along.{Ends, IsLength, PartIs};
-ghost use Rattle.jser_index.specs.Surveying.{AddsString, IsPlain, IsQuiet, GoesPastRaws, GoesPastWhole};
+ghost use Rattle.jser_index.specs.Surveying.{AddsString, IsPlain, IsQuiet, GoesPastWhole};
 ghost use Rattle.jser_index.specs.Listed.{all_lists};
 
 use crate::begun::{Begun, elements_made, is_owner, kind_begun};
@@ -179,22 +179,13 @@ impl Survey {
         Ok(())
     }
 
-    /// Whether at most one node is to be made before the next token, since so many handles are assigned.
-    #[inline(always)]
-    pub(crate) fn is_close(&self, assigned: usize) -> bool
-        ensures { result ≡ true → assigned ≤ length self.now.nodes + 1 }
-    {
-        assigned.saturating_sub(1) <= self.nodes.count()
-    }
-
     /// Goes past a token with which nothing begins, and of which nothing is kept but where it ends: a handle, raw values or
-    /// the bytes of a block. Where at most one node is to be made, raw values may be several tokens.
-    #[tactic(auto, using(crate::proofs::SurveyLemmas::passes_made, crate::proofs::SurveyLemmas::passes_unmade, crate::proofs::SurveyLemmas::quiet_plain, crate::proofs::RawsLemmas::raws_made, crate::proofs::RawsLemmas::raws_unmade))]
+    /// the bytes of a block.
+    #[tactic(auto, using(crate::proofs::SurveyLemmas::passes_made, crate::proofs::SurveyLemmas::passes_unmade, crate::proofs::SurveyLemmas::quiet_plain))]
     #[inline(always)]
-    pub(crate) fn pass(&mut self, assigned: usize, end: u64) -> Result<(), AllocError>
+    fn pass(&mut self, assigned: usize, end: u64) -> Result<(), AllocError>
         ensures finds { OnOk result ((told : StreamToken) → IsQuiet told → place_after self.old.place (bytes_of told) ≡ end
             → self.new ≡ find assigned told self.old) }
-        ensures raws { OnOk result (assigned ≤ length self.old.nodes + 1 → GoesPastRaws assigned end self.old self.new) }
         ensures place { OnOk result (self.new.place ≡ end) }
     {
         if self.is_due(assigned) {

@@ -5,7 +5,7 @@ ghost use Rattle.jser_prim.specs.ModifiedUtf8.{IsUnits, modified_utf8};
 use crate::decode::decode;
 use crate::part::{Part, part_of};
 use jser_printer::{Printer, Token};
-use jser_reader::{OpenGate, Reader, Step, Stop};
+use jser_reader::{FeedFault, Item, OpenGate, Reader, Stop, Visit, Whereabouts};
 use std::alloc::{AllocError, Global};
 
 /// A printer past all tokens of the bytes that end at `to` or before it. It has settled, so it waits for the token that begins
@@ -18,39 +18,50 @@ use std::alloc::{AllocError, Global};
 /// Where memory runs out.
 pub fn walk_along(alloc: Global, bytes: &[u8], to: u64) -> Result<Printer<'static>, AllocError> {
     let mut reader = Reader::new(alloc, OpenGate);
-    let mut printer = Printer::new(alloc, false, &[]);
-    let mut room = Vec::new(alloc);
-    let mut rest = bytes;
-    for _ in 0..=bytes.len() {
-        let Some(after) = pass_item(&mut reader, &mut printer, &mut room, bytes, rest, to)? else {
-            break;
-        };
-        rest = after;
+    let mut walker = Walker {
+        printer: Printer::new(alloc, false, &[]),
+        room: Vec::new(alloc),
+        to,
+    };
+    match reader.feed(bytes, &mut walker) {
+        Ok(()) => {}
+        Err(FeedFault::Reader(Stop::Refused(_))) => {}
+        Err(FeedFault::Visitor(Halt::Beyond)) => {}
+        Err(_) => return Err(AllocError),
     }
+    let Walker { mut printer, .. } = walker;
     printer.settle()?;
     Ok(printer)
 }
 
-/// Goes past the next item, if it ends at `to` or before it, and returns the bytes behind it.
-fn pass_item<'b>(
-    reader: &mut Reader<OpenGate>,
-    printer: &mut Printer<'static>,
-    room: &mut Vec<u16>,
-    bytes: &[u8],
-    rest: &'b [u8],
+/// A printer that goes past the items that it is shown, up to a place. `room` is for the units of a text.
+#[derive(Drop)]
+struct Walker {
+    printer: Printer<'static>,
+    room: Vec<u16>,
     to: u64,
-) -> Result<Option<&'b [u8]>, AllocError> {
-    match reader.next(rest) {
-        Ok(Step::Item { item, used }) => {
-            let (_, after) = rest.split_at(used);
-            if bytes.len().saturating_sub(after.len()) as u64 > to {
-                return Ok(None);
-            }
-            take_part(printer, room, part_of(item))?;
-            Ok(Some(after))
+}
+
+/// Why a walk ends before its bytes do.
+#[derive(Clone, Copy)]
+enum Halt {
+    /// The next item ends behind the place.
+    Beyond,
+    /// Memory ran out.
+    OutOfMemory,
+}
+
+impl Visit for Walker {
+    type Fault = Halt;
+
+    fn item(&mut self, item: Item<'_>, at: Whereabouts) -> Result<(), Halt> {
+        if at.end > self.to {
+            return Err(Halt::Beyond);
         }
-        Ok(Step::More) | Err(Stop::Refused(_)) => Ok(None),
-        Err(_) => Err(AllocError),
+        match take_part(&mut self.printer, &mut self.room, part_of(item)) {
+            Ok(()) => Ok(()),
+            Err(AllocError) => Err(Halt::OutOfMemory),
+        }
     }
 }
 
@@ -62,7 +73,7 @@ fn take_part(
 ) -> Result<(), AllocError> {
     match part {
         Part::Length => Ok(()),
-        Part::Token(token) => { printer.pass(token) }
+        Part::Token(token) => printer.pass(token),
         Part::Text(bytes) => {
             let units = decode(bytes, room)?;
             printer.pass(Token::Text(units))

@@ -1,5 +1,5 @@
 -- The length of a text, whole in a piece or cut.
-use Rattle.std.proofs.Common.{◌≡◌, ℕ, ◌+◌, ◌<◌, ◌≤◌, Bool, true, false, List, ◌++◌, length, take, sym, ◌∙◌, ap, subst, arith}
+use Rattle.std.proofs.Common.{◌≡◌, ℕ, ◌<◌, ◌≤◌, Bool, true, false, List, ◌++◌, length, take, sym, ◌∙◌, ap, subst, arith}
 use Rattle.std.proofs.lemmas.List.{length-take-le}
 use Rattle.jser_prim.specs.Bytes.{big_bytes}
 use Rattle.jser_reading.specs.TokensFromBytes.{head_size}
@@ -9,11 +9,11 @@ use Rattle.jser_reader.specs.declared.machine.take.taken.Taken.{Taken}
 use Rattle.jser_reader.specs.declared.machine.take.taken.Taken.TheVariants as taken
 use Rattle.jser_reader.specs.declared.phase.Phase.TheVariants as phase
 use Rattle.jser_reader.specs.Readers.{Seen, length_phase}
-use Rattle.jser_reader.specs.Walks.{size_of_phase, open_phase, cut_of}
+use Rattle.jser_reader.specs.Walks.{open_phase, cut_of}
 use Rattle.jser_reader.specs.Takes.{CutsOff, IsWholeLength, IsPart, TakesFromFor}
 use Rattle.jser_reader.specs.TextTakes.{TakesLength, LastCases}
 use Rattle.jser_reader.proofs.PhaseLemmas.{whole_open, cut_open}
-use Rattle.jser_reader.proofs.CutLemmas.{first_kept, rest_kept, length_number}
+use Rattle.jser_reader.proofs.CutLemmas.{first_kept, length_number}
 
 part_of_length : (long : Bool) (kept piece : List ℕ) (count : ℕ) → length (kept ++ take count piece) ≡ head_size long
     → IsPart (length_phase long) kept piece count

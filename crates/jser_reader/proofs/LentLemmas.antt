@@ -37,7 +37,7 @@ use Rattle.jser_reader.specs.ItemsTold.{TokenEnds, TellsItems}
 use Rattle.jser_reader.specs.Passes.{HaltCases, PassTells, Passes, IsQuiet, CanPass}
 use Rattle.jser_reader.specs.ReaderStates.{HasRefused, IsSpent, NextCases, NextTells}
 use Rattle.jser_reader.specs.States.{AnswersStop, stop_after}
-use Rattle.jser_reader.specs.Wholes.{IsPlace, HasPlace, HasNumber, HasText, HasReference, tag_of_owner, placed, AssignsText}
+use Rattle.jser_reader.specs.Wholes.{IsPlace, HasPlace, HasNumber, HasText, HasReference, tag_of_owner, placed, with_class, AssignsText}
 use Rattle.jser_reader.specs.WholesTold.{TellsReference, TellsText, TellsString, OwnerCases}
 use Rattle.jser_reader.specs.WholeContents.{StaysWhole}
 use Rattle.jser_reader.proofs.WholeContentLemmas.{whole_stopped}
@@ -51,11 +51,11 @@ use Rattle.jser_reader.proofs.MemoryLemmas.{are_assigned}
 use Rattle.jser_reader.proofs.ItemStands.{OpenItems, stands_items}
 use Rattle.jser_reader.proofs.ItemCalls.{machine_stands, comes_next, token_ended, lends_end, tells_end}
 use Rattle.jser_reader.proofs.PassLemmas.{quiet_next}
-use Rattle.jser_reader.proofs.WholeLemmas.{place_is_one, tag_taken, rest_can, same_end, same_meter, begun_reference, reference_begins, reference_passes, begun_string, string_begins, string_passes, begun_owner, owner_begins, at_class, class_tag_taken, with_class, same_class, TellsClass, second_is, two_on, owner_passes}
+use Rattle.jser_reader.proofs.WholeLemmas.{place_is_one, tag_taken, rest_can, same_end, same_meter, begun_reference, reference_begins, reference_passes, begun_string, string_begins, string_passes, begun_owner, owner_begins, at_class, class_tag_taken, same_class, TellsClass, second_is, two_on, owner_passes}
 
 -- ---- the tag
 
-one_number : (piece : List ℕ) (b : ℕ) → b ≡ get_or piece 0 0 → 0 < length piece → b ≡ number_of (take 1 piece)
+pub one_number : (piece : List ℕ) (b : ℕ) → b ≡ get_or piece 0 0 → 0 < length piece → b ≡ number_of (take 1 piece)
 one_number [] b e some = absurd (omega arith)
 one_number (x ∷ piece) b e some = omega arith
 
@@ -84,7 +84,7 @@ tag_tells gate t piece r m before after g can i some first h c =
 
 -- ---- a token with which no count changes
 
-quiet_tells : (gate : Gate) (lent : Item) (used : ℕ) (given : List ℕ) (old new : Seen) (tally : Tally) → TakesFromFor gate (taken.Ended used) given old new
+pub quiet_tells : (gate : Gate) (lent : Item) (used : ℕ) (given : List ℕ) (old new : Seen) (tally : Tally) → TakesFromFor gate (taken.Ended used) given old new
     → IsQuiet old.phase → CanPass old given → MakesItem (open_phase old) (cut_of old) (take used given) lent
     → TellsItems gate given (Ok (step.Item lent used)) old tally new tally
 unfolding TakesFromFor TellsItems
@@ -126,13 +126,13 @@ reference_tells gate n piece old far new before after g can i first h small p lo
 
 -- ---- a string
 
-text_bytes : (piece : List ℕ) (len : ℕ) → 3 ≤ length piece → take len (drop 3 piece) ≡ drop 2 (take (2 + len) (drop 1 piece))
+pub text_bytes : (piece : List ℕ) (len : ℕ) → 3 ≤ length piece → take len (drop 3 piece) ≡ drop 2 (take (2 + len) (drop 1 piece))
 text_bytes [] len enough = absurd (omega arith)
 text_bytes (a ∷ []) len enough = absurd (omega arith)
 text_bytes (a ∷ b ∷ []) len enough = absurd (omega arith)
 text_bytes (a ∷ b ∷ c ∷ piece) len enough = ap (λ k. drop 2 (take k (b ∷ c ∷ piece))) (let e : suc (suc len) ≡ 2 + len = omega arith in e)
 
-text_tells : (gate : Gate) (text given : List ℕ) (m new : Seen) (tally : Tally) → Takes gate (take (2 + length text) given) flow.On m new
+pub text_tells : (gate : Gate) (text given : List ℕ) (m new : Seen) (tally : Tally) → Takes gate (take (2 + length text) given) flow.On m new
     → 2 + length text ≤ length given → text ≡ drop 2 (take (2 + length text) given) → m.phase ≡ phase.Length2 → CanPass m given
     → TellsText gate given text m tally new tally
 unfolding TellsText

@@ -57,8 +57,8 @@ pub mod PassLemmas
 pub mod WholeLemmas
 pub mod MemberLemmas
 pub mod LentLemmas
-pub mod RawsToldLemmas
-pub mod RawLemmas
+pub mod FieldToldLemmas
+pub mod RestLemmas
 pub mod PlainTextLemmas
 pub mod NameSteps
 pub mod ManyLemmas
@@ -74,5 +74,8 @@ pub mod ManyPasses
 pub mod GoalPlaces
 pub mod TextTokens
 pub mod VisitLemmas
+pub mod FieldShownLemmas
 pub mod FurtherLemmas
+pub mod FieldFurther
+pub mod ShowingLemmas
 pub mod FeedLemmas

@@ -29,7 +29,7 @@ use Rattle.jser_reader.specs.Passes.{Passes}
 use Rattle.jser_reader.specs.Readers.{Seen, Ready}
 use Rattle.jser_reader.specs.Steps.{after_value}
 use Rattle.jser_reader.specs.Takes.{farther}
-use Rattle.jser_reader.specs.Wholes.{HasPlace, HasReference}
+use Rattle.jser_reader.specs.Wholes.{HasPlace, HasReference, with_class}
 use Rattle.jser_reader.proofs.ArrayLemmas.{raw_elements, value_state, no_elements, some_raw, some_values}
 use Rattle.jser_reader.proofs.ClassLemmas.{right_class}
 use Rattle.jser_reader.proofs.CutLemmas.{four_taken}
@@ -40,9 +40,9 @@ use Rattle.jser_reader.proofs.ManyPlain.{tag_there}
 use Rattle.jser_reader.proofs.OwnerLemmas.{array_owned}
 use Rattle.jser_reader.proofs.PartLemmas.{made}
 use Rattle.jser_reader.proofs.PassLemmas.{quiet_end, then_passes}
-use Rattle.jser_reader.proofs.RawLemmas.{can_after}
+use Rattle.jser_reader.proofs.RestLemmas.{can_after}
 use Rattle.jser_reader.proofs.TakeLemmas.{takes_array_length}
-use Rattle.jser_reader.proofs.WholeLemmas.{with_class, TellsClass, owner_passes, raw_passes, same_end}
+use Rattle.jser_reader.proofs.WholeLemmas.{TellsClass, owner_passes, raw_passes, same_end}
 
 -- ---- the class
 

@@ -23,13 +23,13 @@ use Rattle.jser_reader.specs.Passes.{Passes}
 use Rattle.jser_reader.specs.Readers.{Seen}
 use Rattle.jser_reader.specs.Steps.{after_value}
 use Rattle.jser_reader.specs.Takes.{counted_on}
-use Rattle.jser_reader.specs.Wholes.{HasPlace, HasReference}
+use Rattle.jser_reader.specs.Wholes.{HasPlace, HasReference, with_class}
 use Rattle.jser_reader.proofs.ClassLemmas.{right_class}
 use Rattle.jser_reader.proofs.WholeLemmas.{assigned_other}
 use Rattle.jser_reader.proofs.ManyLemmas.{place_on, rest_can, place_counted, place_holds, same_can}
 use Rattle.jser_reader.proofs.ManyPlain.{tag_there}
 use Rattle.jser_reader.proofs.OwnerLemmas.{bare_object, external_object, object_begins, object_owned}
-use Rattle.jser_reader.proofs.WholeLemmas.{with_class, TellsClass, owner_passes}
+use Rattle.jser_reader.proofs.WholeLemmas.{TellsClass, owner_passes}
 
 -- ---- what the code asks
 

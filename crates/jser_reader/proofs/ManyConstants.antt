@@ -25,7 +25,7 @@ use Rattle.jser_reader.specs.Many.{seen_at, tally_at, HoldsNext, with_place, Lea
 use Rattle.jser_reader.specs.Readers.{Seen}
 use Rattle.jser_reader.specs.Steps.{after_value}
 use Rattle.jser_reader.specs.Takes.{counted_on, farther}
-use Rattle.jser_reader.specs.Wholes.{HasPlace, HasReference}
+use Rattle.jser_reader.specs.Wholes.{HasPlace, HasReference, with_class}
 use Rattle.jser_reader.proofs.ClassLemmas.{right_class}
 use Rattle.jser_reader.proofs.CutLemmas.{four_taken}
 use Rattle.jser_reader.proofs.WholeLemmas.{assigned_other}
@@ -33,11 +33,11 @@ use Rattle.jser_reader.proofs.ManyLemmas.{place_on, rest_can, place_counted, pla
 use Rattle.jser_reader.proofs.ManyPlain.{tag_there}
 use Rattle.jser_reader.proofs.OwnerLemmas.{constant_owned}
 use Rattle.jser_reader.proofs.PassLemmas.{quiet_end, then_passes}
-use Rattle.jser_reader.proofs.RawLemmas.{can_after}
+use Rattle.jser_reader.proofs.RestLemmas.{can_after}
 use Rattle.jser_reader.proofs.TakeLemmas.{takes_text_tag, one_taken}
 use Rattle.jser_reader.proofs.TextLemmas.{text_reference, constant_named, right_text}
 use Rattle.jser_reader.proofs.TextTakeLemmas.{takes_text_handle}
-use Rattle.jser_reader.proofs.WholeLemmas.{with_class, TellsClass, owner_passes, same_end}
+use Rattle.jser_reader.proofs.WholeLemmas.{TellsClass, owner_passes, same_end}
 
 -- ---- what the code asks
 

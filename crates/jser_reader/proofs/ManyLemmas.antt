@@ -23,7 +23,7 @@ use Rattle.jser_reader.specs.Tallies.{is_top, may_count, content_begun, with_tok
 use Rattle.jser_reader.specs.Wholes.{IsPlace, HasPlace}
 use Rattle.jser_reader.proofs.CountSteps.{tag_found, block_found, end_found}
 use Rattle.jser_reader.proofs.PassLemmas.{then_passes, passes_at_top}
-use Rattle.jser_reader.proofs.RawLemmas.{can_after}
+use Rattle.jser_reader.proofs.RestLemmas.{can_after}
 
 -- ---- where the loop is
 

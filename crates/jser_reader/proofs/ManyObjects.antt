@@ -19,7 +19,7 @@ use Rattle.jser_reader.specs.declared.machine.many.counts.Turn.TheVariants as tu
 use Rattle.jser_reader.specs.Classes.{fit_reason}
 use Rattle.jser_reader.specs.Fitting.{HasParts, IsPart}
 use Rattle.jser_reader.specs.Many.{HasSections}
-use Rattle.jser_reader.specs.Wholes.{AssignsOther}
+use Rattle.jser_reader.specs.Wholes.{AssignsOther, with_class}
 use Rattle.jser_reader.specs.Frames.{frame_goals}
 use Rattle.jser_reader.specs.Handlers.{Pushes, BeginsObject, moved, added, pushed, is_full}
 use Rattle.jser_reader.specs.Many.{seen_at, tally_at, HoldsNext, with_place, with_used, with_depth, LeadsTo, Ends, RawsOn, OpensAs, Puts, Opened, Turns}
@@ -33,7 +33,7 @@ use Rattle.jser_reader.proofs.WholeLemmas.{assigned_other}
 use Rattle.jser_reader.proofs.ManyEnds.{leads_same, leads_raws, stands_there}
 use Rattle.jser_reader.proofs.ManyLemmas.{place_on, rest_can, place_counted, place_holds, leads_there, same_can}
 use Rattle.jser_reader.proofs.OwnerLemmas.{filled_object, object_begins, object_owned}
-use Rattle.jser_reader.proofs.WholeLemmas.{with_class, TellsClass, owner_passes}
+use Rattle.jser_reader.proofs.WholeLemmas.{TellsClass, owner_passes}
 
 -- ---- what the code asks
 

@@ -21,7 +21,7 @@ use Rattle.jser_reader.specs.Steps.{before_parts, after_value, PartGives}
 use Rattle.jser_reader.specs.Takes.{counted_on, farther}
 use Rattle.jser_reader.proofs.PartLemmas.{made, goes_value}
 use Rattle.jser_reader.proofs.PassLemmas.{then_passes}
-use Rattle.jser_reader.proofs.RawLemmas.{can_after}
+use Rattle.jser_reader.proofs.RestLemmas.{can_after}
 use Rattle.jser_reader.proofs.WholeLemmas.{raw_passes}
 
 -- ---- one raw value

@@ -14,7 +14,7 @@ use Rattle.jser_reader.specs.declared.machine.flow.Flow.{Flow}
 use Rattle.jser_reader.specs.declared.machine.flow.Flow.TheVariants as flow
 use Rattle.jser_reader.specs.declared.item.Item.TheVariants as item
 use Rattle.jser_reader.specs.declared.item.Step.TheVariants as step
-use Rattle.jser_reader.specs.declared.machine.pass.passed.Passed.{Passed}
+use Rattle.jser_reader.specs.declared.machine.passed.Passed.{Passed}
 use Rattle.jser_reader.specs.declared.machine.take.taken.Taken.{Taken}
 use Rattle.jser_reader.specs.declared.machine.take.taken.Taken.TheVariants as taken
 use Rattle.jser_reader.specs.declared.phase.Phase.{Phase}

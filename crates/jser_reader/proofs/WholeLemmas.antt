@@ -32,7 +32,7 @@ use Rattle.jser_reader.specs.Takes.{counted_on, farther, TakesByte, TakesFromFor
 use Rattle.jser_reader.specs.Tallies.{CountsNext}
 use Rattle.jser_reader.specs.Passes.{Passes, CanPass}
 use Rattle.jser_reader.specs.Frames.{goal_owner}
-use Rattle.jser_reader.specs.Wholes.{IsPlace, HasPlace, HasNumber, HasText, HasReference, tag_of_owner, placed, AssignsText, AssignsOther, all_or_none}
+use Rattle.jser_reader.specs.Wholes.{IsPlace, HasPlace, HasNumber, HasText, HasReference, tag_of_owner, placed, with_class, AssignsText, AssignsOther, all_or_none}
 use Rattle.jser_reader.proofs.EndLemmas.{same_value}
 use Rattle.jser_reader.proofs.ValueLemmas.{back_begun, object_begun, array_begun, class_begun, enum_begun, string_begun, new_text, counted_tag}
 use Rattle.jser_reader.proofs.NumberLemmas.{right_handle, no_bytes, some_bytes}
@@ -274,24 +274,6 @@ class_tag_taken r ep =
     (record { phase_is = refl; frames = refl; layers = refl; table = refl; refs = refl; owner_is = refl; chain_is = refl; header_is = refl; text_is = refl; left = refl; meter = refl })
     refl))
     refl ep
-
--- both tags and the handle were counted, and the handle is what is open
-abbrev pub with_class : Owner → Seen → Seen
-with_class o r = record {
-  meter = record { at = r.meter.at + 2 + 4; from = r.meter.at + 2; limits = r.meter.limits; stop = r.meter.stop; cut_phase = r.meter.cut_phase; kept = r.meter.kept };
-  phase = phase.ClassHandle;
-  frames = r.frames;
-  layers = r.layers;
-  table = r.table;
-  refs = suc r.refs;
-  owner = o;
-  elements = r.elements;
-  header = r.header;
-  text = r.text;
-  left = r.left;
-  scan = r.scan;
-  name = r.name;
-}
 
 pub same_class : (o : Owner) (r : Seen) → with_class o r ≡ farther (at_class (begun_owner o r)) 4
 same_class o r =

@@ -36,11 +36,11 @@ pub mod Items
 pub mod ItemsMade
 pub mod ItemsTold
 pub mod WholesTold
+pub mod FieldsTold
 pub mod TokenLaws
 pub mod Gates
-pub mod RawRuns
-pub mod RawsTold
 pub mod Places
 pub mod MachinePlaces
 pub mod Visits
 pub mod Feeds
+pub mod Showing

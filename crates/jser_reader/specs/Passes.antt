@@ -4,8 +4,8 @@ use Rattle.jser_grammar.specs.Parts.{IsBytes}
 use Rattle.jser_reading.specs.Labels.{Label, Piece}
 use Rattle.jser_reading.specs.ComesNext.{ComesNext}
 use Rattle.jser_verdict.specs.Gates.{Gate, IsGate}
-use Rattle.jser_reader.specs.declared.machine.pass.passed.Passed.{Passed}
-use Rattle.jser_reader.specs.declared.machine.pass.passed.Passed.TheVariants as passed
+use Rattle.jser_reader.specs.declared.machine.passed.Passed.{Passed}
+use Rattle.jser_reader.specs.declared.machine.passed.Passed.TheVariants as passed
 use Rattle.jser_reader.specs.declared.machine.take.taken.Taken.{Taken}
 use Rattle.jser_reader.specs.declared.machine.take.taken.Taken.TheVariants as taken
 use Rattle.jser_reader.specs.declared.phase.Phase.{Phase}

@@ -58,6 +58,24 @@ tag_of_owner owner.ClassObject = value.Class
 abbrev pub placed : Seen → ℕ → Seen
 placed r k = record { meter = counted_on r.meter k; phase = r.phase; frames = r.frames; layers = r.layers; table = r.table; refs = suc r.refs; owner = r.owner; elements = r.elements; header = r.header; text = r.text; left = r.left; scan = r.scan; name = r.name }
 
+-- both tags and the handle were counted, and the handle is what is open
+abbrev pub with_class : Owner → Seen → Seen
+with_class o r = record {
+  meter = record { at = r.meter.at + 2 + 4; from = r.meter.at + 2; limits = r.meter.limits; stop = r.meter.stop; cut_phase = r.meter.cut_phase; kept = r.meter.kept };
+  phase = phase.ClassHandle;
+  frames = r.frames;
+  layers = r.layers;
+  table = r.table;
+  refs = suc r.refs;
+  owner = o;
+  elements = r.elements;
+  header = r.header;
+  text = r.text;
+  left = r.left;
+  scan = r.scan;
+  name = r.name;
+}
+
 -- the handle of a new string was assigned; or nothing was done
 abbrev pub TextCases : Bool → Seen → Seen → Type 0
 TextCases true old new = (is_full old ≡ false) × (new ≡ added old text_entry)

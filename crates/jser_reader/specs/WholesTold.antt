@@ -11,8 +11,8 @@ use Rattle.jser_reader.specs.declared.item.Item.TheVariants as item
 use Rattle.jser_reader.specs.declared.item.Step.TheVariants as step
 use Rattle.jser_reader.specs.declared.item.Whole.{Whole}
 use Rattle.jser_reader.specs.declared.item.Whole.TheVariants as whole
-use Rattle.jser_reader.specs.declared.machine.wholes.lent.Lent.{Lent}
-use Rattle.jser_reader.specs.declared.machine.wholes.lent.Lent.TheVariants as lent
+use Rattle.jser_reader.specs.declared.reader.lent.Lent.{Lent}
+use Rattle.jser_reader.specs.declared.reader.lent.Lent.TheVariants as lent
 use Rattle.jser_reader.specs.declared.refusal.Stop.{Stop}
 use Rattle.jser_reader.specs.declared.tally.Tally.{Tally}
 use Rattle.jser_reader.specs.Bounds.{AreAssigned}

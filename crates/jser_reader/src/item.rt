@@ -65,6 +65,18 @@ pub enum Whole<'p> {
     },
 }
 
+/// A declared field of a descriptor, lent at once: its type code, its name, and its type where that is a reference.
+#[derive(Clone, Copy, PartialEq, Eq, Debug)]
+pub struct Field<'p> {
+    /// Its type code.
+    pub code: u8,
+    /// The bytes of its name, in modified UTF-8.
+    pub name: &'p [u8],
+    /// The handle of its type as it is written, where that is a reference. None where the field has no type, and where items
+    /// that come later tell it.
+    pub type_handle: Option<u32>,
+}
+
 /// What a stream holds that was read to its end.
 #[derive(Clone, Copy, PartialEq, Eq, Debug)]
 pub struct Totals {

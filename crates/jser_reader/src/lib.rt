@@ -20,8 +20,8 @@ mod tally;
 mod visit;
 
 pub use gate::{Answer, Gate, Limits, OpenGate};
-pub use item::{Item, Step, Totals, Whole};
+pub use item::{Field, Item, Step, Totals, Whole};
 pub use place::Place;
 pub use reader::Reader;
 pub use refusal::{Reason, Refusal, Stop};
-pub use visit::{FeedFault, Visit};
+pub use visit::{FeedFault, Visit, Whereabouts};

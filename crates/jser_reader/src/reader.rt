@@ -7,18 +7,17 @@ ghost use Rattle.jser_reader.specs.ItemsMade.{MakesStep};
 ghost use Rattle.jser_reader.specs.ItemsTold.{StandsIn, TellsItems, TellsTokens};
 ghost use Rattle.jser_reader.specs.States.{IsWithin};
 ghost use Rattle.jser_reader.specs.Places.{PlaceTold};
-ghost use Rattle.jser_reader.specs.RawsTold.{RawsCases};
-ghost use Rattle.jser_reader.specs.WholesTold.{WholeCases};
 
 mod feed;
+mod lent;
+mod pass;
 
 use crate::gate::Gate;
-use crate::item::{Step, Totals, Whole};
+use crate::item::{Step, Totals};
 use crate::machine::Machine;
 use crate::machine::items::{Kept, item_of};
-use crate::machine::pass::passed::Passed;
+use crate::machine::passed::Passed;
 use crate::machine::take::taken::Taken;
-use crate::machine::wholes::lent::Lent;
 use crate::phase::Phase;
 use crate::place::Place;
 use crate::refusal::Stop;
@@ -148,43 +147,6 @@ impl<G: Gate> Reader<G> {
         self.step(piece, front)
     }
 
-    /// A value that is lent at once, where it comes next and all these bytes are at the front of the piece: a reference, a
-    /// string of less than 64 KiB, or the beginning of what has a class, where that is a reference. It is taken in one step,
-    /// as if `next` lent its items one after another.
-    ///
-    /// `None` where something else comes next, or not all bytes of it are there; and for references and strings also where
-    /// they are refused or memory runs out. Nothing is done then, and `next` says what comes. So of a reader that has stopped.
-    ///
-    /// # Errors
-    ///
-    /// As `next`, where a class is refused or memory runs out.
-    #[inline(always)]
-    pub fn next_whole<'p>(&mut self, piece: &'p [u8]) -> Result<Option<Whole<'p>>, Stop>
-        ensures tells { WholeCases (G.told self.old.gate) piece.now result self.old.machine self.old.tally self.new.machine self.new.tally }
-        ensures stays { self.old.machine.phase ≡ Phase.Stopped → (result ≡ Ok None) × (self.new ≡ self.old) }
-        ensures gate { self.new.gate ≡ self.old.gate }
-    {
-        match self.machine.lend_whole(&mut self.tally, piece) {
-            Lent::Value(whole) => Ok(Some(whole)),
-            Lent::Nothing => Ok(None),
-            Lent::Stopped => Err(self.machine.answer()),
-        }
-    }
-
-    /// Takes the raw values that come next, as many as come one after another and are at the front of the piece with all their
-    /// bytes, and returns how many bytes they are. They are taken as if `next` lent them one after another.
-    ///
-    /// `None` where no raw value comes next, or not all its bytes are there. Nothing is done then, and `next` says what comes.
-    /// So of a reader that has stopped.
-    #[inline(always)]
-    pub fn skip_raws(&mut self, piece: &[u8]) -> Option<usize>
-        ensures tells { RawsCases (G.told self.old.gate) piece.now result self.old.machine self.old.tally self.new.machine self.new.tally }
-        ensures stays { self.old.machine.phase ≡ Phase.Stopped → (result ≡ None) × (self.new ≡ self.old) }
-        ensures gate { self.new.gate ≡ self.old.gate }
-    {
-        self.machine.skip_raws(piece)
-    }
-
     /// Takes the whole piece: as `next` called on it, and on what is left of it, until it answers `More`.
     ///
     /// # Errors
@@ -203,7 +165,7 @@ impl<G: Gate> Reader<G> {
         let mut used = 0;
         'steps: while used < piece.len() {
             let (_, rest) = piece.split_at(used);
-            match self.machine.pass(&self.gate, &mut self.tally, rest) {
+            match self.pass(rest) {
                 Passed::Stopped => return Err(self.machine.answer()),
                 Passed::Took(more) => used += more,
             }

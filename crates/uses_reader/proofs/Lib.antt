@@ -3,3 +3,4 @@ pub mod CutLemmas
 pub mod TakingLemmas
 pub mod PlaceLemmas
 pub mod ShowingLemmas
+pub mod StandingLemmas

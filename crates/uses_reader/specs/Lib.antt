@@ -1,3 +1,4 @@
 pub mod Answers
 pub mod Taking
 pub mod Showing
+pub mod Standing

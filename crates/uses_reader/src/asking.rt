@@ -32,12 +32,10 @@ pub fn handles_so_far<G: Gate>(reader: &Reader<G>) -> u32
     reader.epoch_handles()
 }
 
-/// The limit on bytes after what comes next was taken, in whichever way: it is what it was.
+/// The limit on bytes after the next item was taken: it is what it was.
 pub fn limit_after<'p, G: Gate>(reader: &mut Reader<G>, piece: &'p [u8]) -> u64
     ensures { result ≡ (G.told reader.old.gate).bytes }
 {
-    let _raws = reader.skip_raws(piece);
-    let _whole = reader.next_whole(piece);
     let _step = reader.next(piece);
     reader.gate().max_bytes()
 }
@@ -55,13 +53,11 @@ pub fn first_item<'p, G: Gate>(reader: &mut Reader<G>, piece: &'p [u8]) -> Resul
     reader.next(piece)
 }
 
-/// What a reader that has stopped answers to a piece, in whichever way it was given that before: what it answered before.
+/// What a reader that has stopped answers to a piece: what it answered before.
 pub fn next_again<'p, G: Gate>(reader: &mut Reader<G>, piece: &'p [u8]) -> Result<Step<'p>, Stop>
     ensures refused { (refusal : Refusal) → HasRefused refusal reader.old.machine → result ≡ Err (Stop.Refused refusal) }
     ensures spent { IsSpent reader.old.machine → result ≡ Err Stop.Spent }
 {
-    let _raws = reader.skip_raws(piece);
-    let _whole = reader.next_whole(piece);
     reader.next(piece)
 }
 

@@ -7,6 +7,7 @@ pub mod asking;
 pub mod cuts;
 pub mod places;
 pub mod showing;
+pub mod standing;
 pub mod taking;
 #[cfg(test)]
 mod tests;

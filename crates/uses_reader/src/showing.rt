@@ -4,7 +4,7 @@ ghost use Rattle.jser_reader.specs.ReaderStates.{HasRefused, IsSpent};
 ghost use Rattle.jser_reader.specs.declared.Refusal.{Refusal};
 ghost use Rattle.uses_reader.specs.Showing.{ShowsAtMost};
 
-use jser_reader::{FeedFault, Gate, Item, Reader, Stop, Visit};
+use jser_reader::{FeedFault, Gate, Item, Reader, Stop, Visit, Whereabouts, Whole};
 
 /// A visitor that takes so many items and no more.
 #[derive(Drop)]
@@ -20,11 +20,11 @@ pub struct NoMore;
 impl Visit for Few {
     type Fault = NoMore;
 
-    ghost takes = { λ _ old new. old.left ≡ new.left + 1 };
+    ghost takes = { λ _ _ old new. old.left ≡ new.left + 1 };
 
     ghost stops = { λ _ _ old _. old.left ≡ 0 };
 
-    fn item(&mut self, _: Item<'_>) -> Result<(), NoMore> {
+    fn item(&mut self, _: Item<'_>, _: Whereabouts) -> Result<(), NoMore> {
         match self.left.checked_sub(1) {
             Some(left) => {
                 self.left = left;
@@ -32,6 +32,27 @@ impl Visit for Few {
             }
             None => Err(NoMore),
         }
+    }
+}
+
+/// A visitor that counts the values which it is shown at once.
+#[derive(Drop)]
+pub struct Wholes {
+    /// How many there were.
+    pub count: u64,
+}
+
+impl Visit for Wholes {
+    type Fault = NoMore;
+
+    fn item(&mut self, _: Item<'_>, _: Whereabouts) -> Result<(), NoMore> {
+        Ok(())
+    }
+
+    #[tactic(auto, using(crate::proofs::ShowingLemmas::takes_any))]
+    fn whole(&mut self, _: Whole<'_>, _: Whereabouts) -> Result<(), NoMore> {
+        self.count = self.count.saturating_add(1);
+        Ok(())
     }
 }
 

@@ -118,7 +118,7 @@ impl Machine {
 
     /// The handle of a reference in a class place.
     #[inline(never)]
-    pub(super) fn class_handle(&mut self, n: u32) -> Flow
+    pub(crate) fn class_handle(&mut self, n: u32) -> Flow
         ensures { Tells (class_handle_reason (plain_gate self.old) (label_at (class_handle_at (goal_owner self.old.owner)) (suc (length self.old.frames)) self.old) (goal_owner self.old.owner) n)
             (owner_state self.old (chain_at self.old.table.entries (n - BASE_WIRE_HANDLE))) result self.old self.new }
     {

@@ -61,7 +61,7 @@ impl Machine {
     /// The token has ended, and a value with it; the next field or element of what is on top is found in line.
     #[tactic(auto, using(crate::proofs::EndLemmas::ends))]
     #[inline(always)]
-    pub(super) fn ended_in_line(&mut self) -> Flow
+    pub(crate) fn ended_in_line(&mut self) -> Flow
         ensures comes { Comes self.old self.new (after_value self.old) }
         ensures result { result ≡ Flow.On }
     {

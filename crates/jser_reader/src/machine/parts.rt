@@ -1,7 +1,7 @@
 //! What comes after a value: the next part of the array, object or descriptor that is open.
 ghost use Rattle.std.specs.Prelude.{◌≡◌, ◌∷◌, true};
 ghost use Rattle.jser_table.specs.Chains.{has_write_method};
-ghost use Rattle.jser_table.specs.Sections.{layer_of, under, IsOn};
+ghost use Rattle.jser_table.specs.Sections.{layer_of, under, IsOn, IsNext};
 ghost use Rattle.jser_reading.specs.Goals.{section_parts, annotation_if};
 ghost use Rattle.jser_reader.specs.declared.frame.Frame.{Frame};
 ghost use Rattle.jser_reader.specs.Frames.{rest_of_section};
@@ -51,6 +51,21 @@ impl Machine {
         }
     }
 
+    /// The number of the section after this one, if there is one. What the table keeps to find the next ones sooner is no part of
+    /// the machine.
+    #[inline(always)]
+    pub(super) fn section_behind(
+        &mut self,
+        last: SectionNumber,
+        section: SectionNumber,
+    ) -> Option<SectionNumber>
+        requires { IsOn self.old.table.chains last section }
+        ensures next { IsNext self.old.table.chains last section result }
+        ensures same { self.new ≡ self.old }
+    {
+        self.table.pass_section(last, section)
+    }
+
     /// The section after this one, if there is one.
     #[tactic(auto, using(crate::proofs::PartLemmas::no_section, crate::proofs::PartLemmas::one_section))]
     pub(super) fn next_section(&mut self, last: SectionNumber, section: SectionNumber) -> bool
@@ -60,7 +75,7 @@ impl Machine {
         ensures parts { HasParts self.new.frames }
         ensures part { PartGives result self.old self.new (section_parts (under self.old.table.chains last section)) }
     {
-        match self.table.next_section(last, section) {
+        match self.section_behind(last, section) {
             None => false,
             Some(next) => {
                 self.begin_section(last, next);

@@ -167,6 +167,22 @@ impl Machine {
         tally.begun = self.whole(*tally);
     }
 
+    /// What comes next, or is open.
+    #[inline(always)]
+    pub(crate) fn phase(&self) -> Phase
+        ensures { result ≡ self.now.phase }
+    {
+        self.phase
+    }
+
+    /// How many bytes were taken.
+    #[inline(always)]
+    pub(crate) fn at(&self) -> u64
+        ensures { result ≡ self.now.meter.at }
+    {
+        self.at
+    }
+
     /// How many handles of the epoch are assigned.
     #[inline(always)]
     pub(crate) fn handles(&self) -> u32

@@ -1,23 +1,20 @@
-//! Parts of values of which all bytes are in the piece: a number, a reference, a text, raw values; and what is counted where a
-//! value begins. They are taken in one step, though each is several tokens.
-ghost use Rattle.std.specs.Prelude.{◌≡◌, ◌+◌, ◌^◌, ◌<◌, ◌≤◌, true, length, drop, Some, None, IfSome};
-ghost use Rattle.jser_verdict.specs.Gates.{Gate as ToldGate};
-ghost use Rattle.jser_reader.specs.Passes.{Passes, CanPass};
-ghost use Rattle.jser_reader.specs.RawsTold.{TellsRaws};
-ghost use Rattle.jser_reader.specs.Wholes.{HasPlace, HasNumber, HasText, HasReference, AssignsText, AssignsOther, placed};
+//! Parts of values of which all bytes are in the piece: a number, a reference, a text; and what is counted where a value begins.
+//! They are taken in one step, though each is several tokens.
+ghost use Rattle.std.specs.Prelude.{◌≡◌, ◌+◌, ◌^◌, ◌<◌, ◌≤◌, true, length, take, drop, Some, None, IfSome};
+ghost use Rattle.jser_reader.specs.Visits.{field_size};
+ghost use Rattle.jser_reader.specs.Wholes.{HasPlace, HasNumber, HasText, HasReference, AssignsText, AssignsOther, placed, with_class};
 
-pub(crate) mod lent;
-
+use crate::frame::Owner;
+use crate::item::Field;
 use crate::machine::Machine;
 use crate::phase::Phase;
-use crate::tally::Tally;
 use jser_grammar::wire::TC_REFERENCE;
 use jser_prim::{TextScan, read_u16, read_u32};
 use jser_table::Kind;
 
 /// The number in the four bytes after a tag, where all of them are there.
 #[inline(always)]
-pub(super) fn number_after(piece: &[u8]) -> Option<u32>
+pub(crate) fn number_after(piece: &[u8]) -> Option<u32>
     ensures { IfSome result (λ n. HasNumber piece.now n) }
 {
     if piece.len() < 5 {
@@ -30,7 +27,7 @@ pub(super) fn number_after(piece: &[u8]) -> Option<u32>
 
 /// The handle of the reference after a tag, where one comes there and all its bytes are there.
 #[inline(always)]
-pub(super) fn reference_after(piece: &[u8]) -> Option<u32>
+pub(crate) fn reference_after(piece: &[u8]) -> Option<u32>
     ensures { IfSome result (λ n. HasReference piece.now n) }
 {
     if piece.len() < 6 || piece[1] != TC_REFERENCE {
@@ -43,7 +40,7 @@ pub(super) fn reference_after(piece: &[u8]) -> Option<u32>
 
 /// How many bytes the text has whose length comes after a tag, where all of them are there and are one.
 #[inline(always)]
-pub(super) fn text_after(piece: &[u8]) -> Option<usize>
+pub(crate) fn text_after(piece: &[u8]) -> Option<usize>
     ensures { IfSome result (λ len. HasText piece.now len) }
 {
     if piece.len() < 3 {
@@ -63,10 +60,33 @@ pub(super) fn text_after(piece: &[u8]) -> Option<usize>
     }
 }
 
+/// The bytes of the text that comes after a tag and its length of two bytes.
+#[inline(always)]
+pub(crate) fn text_in(piece: &[u8], len: usize) -> &[u8]
+    requires { 3 + len ≤ length piece.now }
+    ensures { result.now ≡ take len (drop 3 piece.now) }
+{
+    let (_, rest) = piece.split_at(3);
+    let (text, _) = rest.split_at(len);
+    text
+}
+
+/// How many bytes a declared field has that is lent at once.
+#[inline(always)]
+pub(crate) fn size_of_field(field: Field<'_>) -> usize
+    requires { field_size field < 2 ^ 64 }
+    ensures { result ≡ field_size field.entry }
+{
+    match field.type_handle {
+        Some(_) => field.name.len() + 8,
+        None => field.name.len() + 3,
+    }
+}
+
 impl Machine {
     /// Whether a place may begin here: it is not too deep, nor one too many.
     #[inline(always)]
-    pub(super) fn has_place(&self) -> bool
+    pub(crate) fn has_place(&self) -> bool
         ensures { result ≡ true → HasPlace self.now }
     {
         self.frames.len() < self.limits.depth as usize && self.refs < self.limits.refs
@@ -74,7 +94,7 @@ impl Machine {
 
     /// Counts a place and so many bytes.
     #[inline(always)]
-    pub(super) fn begin_place(&mut self, size: u64)
+    pub(crate) fn begin_place(&mut self, size: u64)
         requires few { self.old.refs < self.old.meter.limits.refs }
         requires room { self.old.meter.at + size < 2 ^ 64 }
         ensures { self.new ≡ placed self.old size }
@@ -83,10 +103,26 @@ impl Machine {
         self.at += size;
     }
 
+    /// Counts the place of what has a class, where that is a reference: its tag and the six bytes up to the end of the handle were
+    /// taken, and the handle comes next.
+    #[inline(always)]
+    pub(crate) fn begin_class_reference(&mut self, owner: Owner)
+        requires few { self.old.refs < self.old.meter.limits.refs }
+        requires room { self.old.meter.at + 6 < 2 ^ 64 }
+        ensures { self.new ≡ with_class owner self.old }
+    {
+        self.refs += 1;
+        self.owner = owner;
+        self.at += 2;
+        self.from = self.at;
+        self.phase = Phase::ClassHandle;
+        self.at += 4;
+    }
+
     /// Assigns the handle of a new string; or does nothing.
     #[tactic(auto, using(crate::proofs::EntryLemmas::fits_entry, crate::proofs::WholeLemmas::assigns_text, crate::proofs::WholeLemmas::assigns_nothing))]
     #[inline(always)]
-    pub(super) fn assign_text(&mut self) -> bool
+    pub(crate) fn assign_text(&mut self) -> bool
         ensures { AssignsText result self.old self.new }
     {
         self.table.assign(Kind::Text).is_ok()
@@ -99,26 +135,5 @@ impl Machine {
         ensures { AssignsOther result self.old self.new }
     {
         self.table.assign(Kind::Other).is_ok()
-    }
-
-    /// Takes a raw value, of which all bytes that are left are in the piece, and returns how many they are; or does
-    /// nothing.
-    #[inline(always)]
-    pub(super) fn whole_raw(&mut self, piece: &[u8]) -> Option<usize>
-        requires can { CanPass self.old piece.now }
-        requires phase { self.old.phase ≡ Phase.Prims }
-        ensures passes { IfSome result (λ used. (gate : ToldGate) (tally : Tally) → Passes gate piece.now (Some used) self.old tally self.new tally) }
-        ensures told { IfSome result (λ used. (gate : ToldGate) (tally : Tally) → TellsRaws gate piece.now used self.old tally self.new tally) }
-        ensures within { IfSome result (λ used. (0 < used) × (used ≤ length piece.now)) }
-        ensures can { IfSome result (λ used. CanPass self.new (drop used piece.now)) }
-        ensures nothing { result ≡ None → self.new ≡ self.old }
-    {
-        let count = self.left;
-        if count == 0 || count > piece.len() as u64 {
-            return None;
-        }
-        self.at += count;
-        self.ended_in_line();
-        Some(count as usize)
     }
 }

@@ -1,9 +1,10 @@
 //! Items, states and cut streams, piece by piece.
 
-use crate::showing::{NoMore, show_at_most};
+use crate::showing::{NoMore, Wholes, show_at_most};
+use crate::standing::last_of;
 use crate::tests::asserted::{holds, same};
 use crate::tests::{answer_of, finish, next, skip, totals, with_reader};
-use jser_reader::{FeedFault, Item, OpenGate, Reader, Reason, Refusal, Step, Stop, Whole};
+use jser_reader::{FeedFault, Item, OpenGate, Reader, Reason, Refusal, Step, Stop, Whereabouts};
 use std::alloc::Global;
 use std::process::Abort;
 use std::test::Fail;
@@ -111,63 +112,6 @@ fn linked_pair_cuts(rt: HostRuntime) {
     }
 }
 
-/// A value that is lent at once.
-fn next_whole<'p>(
-    reader: &mut Reader<OpenGate>,
-    piece: &'p [u8],
-) -> Result<Option<Whole<'p>>, Stop> {
-    reader.next_whole(piece)
-}
-
-/// A string and a reference to it are lent at once, and half a reference is not.
-fn lends_whole_values(rt: &impl Abort, reader: &mut Reader<OpenGate>) {
-    same!(rt; skip(reader, &[0xAC, 0xED, 0x00, 0x05]), Ok(()));
-    let text = next_whole(reader, &[0x74, 0x00, 0x01, 0x61]);
-    same!(rt; text, Ok(Some(Whole::String(&[0x61]))));
-    let half = next_whole(reader, &[0x71, 0x00, 0x7E]);
-    same!(rt; half, Ok(None));
-    let back = next_whole(reader, &[0x71, 0x00, 0x7E, 0x00, 0x00]);
-    same!(rt; back, Ok(Some(Whole::Reference(0x7E_0000))));
-}
-
-#[test]
-fn whole_values(rt: HostRuntime) {
-    with_reader(&rt, |rt, reader| lends_whole_values(rt, reader));
-}
-
-/// A stream up to the values of an object with a byte and an int.
-const TWO_RAW_VALUES: [u8; 30] = [
-    0xAC, 0xED, 0x00, 0x05, 0x73, 0x72, 0x00, 0x01, 0x41, 0x00, 0x00, 0x00, 0x00, 0x00, 0x00, 0x00,
-    0x01, 0x02, 0x00, 0x02, 0x42, 0x00, 0x01, 0x78, 0x49, 0x00, 0x01, 0x79, 0x78, 0x70,
-];
-
-/// Pieces, and how many of their bytes are raw values that are whole in the piece: here the last bytes of one are not, and a
-/// null is none.
-const RAW_VALUES: [(&[u8], Option<usize>); 4] = [
-    (&[0x05], Some(1)),
-    (&[0x00, 0x00, 0x00], None),
-    (&[0x00, 0x00, 0x00, 0x07, 0x70], Some(4)),
-    (&[0x70], None),
-];
-
-/// Takes the raw values that come next.
-fn skip_raws(reader: &mut Reader<OpenGate>, piece: &[u8]) -> Option<usize> {
-    reader.skip_raws(piece)
-}
-
-/// Raw values are skipped where they are whole in the piece.
-fn skips_raw_values(rt: &impl Abort, reader: &mut Reader<OpenGate>) {
-    same!(rt; skip(reader, &TWO_RAW_VALUES), Ok(()));
-    for (piece, count) in RAW_VALUES {
-        same!(rt; skip_raws(reader, piece), count, format_args!("{piece:?}"));
-    }
-}
-
-#[test]
-fn raw_values(rt: HostRuntime) {
-    with_reader(&rt, |rt, reader| skips_raw_values(rt, reader));
-}
-
 /// A stream of six items: the header, a string as a tag, a length and bytes, and a reference to it as a tag and a handle.
 const SIX_ITEMS: [u8; 13] = [
     0xAC, 0xED, 0x00, 0x05, 0x74, 0x00, 0x01, 0x61, 0x71, 0x00, 0x7E, 0x00, 0x00,
@@ -192,4 +136,72 @@ fn shows_six_items(rt: &impl Abort, reader: &mut Reader<OpenGate>) {
 #[test]
 fn six_items(rt: HostRuntime) {
     with_reader(&rt, |rt, reader| shows_six_items(rt, reader));
+}
+
+/// How many values of a piece are shown at once.
+fn whole_values_in(reader: &mut Reader<OpenGate>, piece: &[u8]) -> u64 {
+    let mut wholes = Wholes { count: 0 };
+    let _ = reader.feed(piece, &mut wholes);
+    wholes.count
+}
+
+/// A string and a reference that are whole in a piece are shown at once; of what comes byte by byte nothing is.
+fn shows_whole_values(rt: &impl Abort, reader: &mut Reader<OpenGate>) {
+    same!(rt; whole_values_in(reader, &SIX_ITEMS), 2);
+    reader.restart();
+    for byte in SIX_ITEMS.chunks(1) {
+        same!(rt; whole_values_in(reader, byte), 0, format_args!("{byte:?}"));
+    }
+}
+
+#[test]
+fn whole_values(rt: HostRuntime) {
+    with_reader(&rt, |rt, reader| shows_whole_values(rt, reader));
+}
+
+/// Where each item of `SIX_ITEMS` stands, at its last byte: the handles before it, and its end.
+const STANDS: [Option<(u64, u64)>; 13] = [
+    None,
+    None,
+    None,
+    Some((0, 4)),
+    Some((0, 5)),
+    None,
+    Some((1, 7)),
+    Some((1, 8)),
+    Some((1, 9)),
+    None,
+    None,
+    None,
+    Some((1, 13)),
+];
+
+/// These numbers as a visitor is told them.
+fn whereabouts(stands: Option<(u64, u64)>) -> Option<Whereabouts> {
+    match stands {
+        Some((handles, end)) => Some(Whereabouts { handles, end }),
+        None => None,
+    }
+}
+
+/// Where the last item of a piece stands.
+fn last_in(
+    reader: &mut Reader<OpenGate>,
+    piece: &[u8],
+) -> Result<Option<Whereabouts>, FeedFault<NoMore>> {
+    last_of(reader, piece)
+}
+
+/// The last item of a piece ends behind all bytes up to there, wherever the bytes are cut.
+fn tells_the_last(rt: &impl Abort, reader: &mut Reader<OpenGate>) {
+    same!(rt; last_in(reader, &SIX_ITEMS), Ok(whereabouts(Some((1, 13)))));
+    reader.restart();
+    for (byte, stands) in SIX_ITEMS.chunks(1).zip(STANDS) {
+        same!(rt; last_in(reader, byte), Ok(whereabouts(stands)), format_args!("{byte:?}"));
+    }
+}
+
+#[test]
+fn last_items(rt: HostRuntime) {
+    with_reader(&rt, |rt, reader| tells_the_last(rt, reader));
 }

@@ -1,100 +1,66 @@
-use Rattle.std.proofs.Common.{rules, refl, subst, Ok}
-use Rattle.jser_reader.specs.Gates.{open_gate}
-use Rattle.jser_reader.specs.ItemsTold.{TellsItems}
-use Rattle.jser_reader.specs.ReaderStates.{HasProgress}
-use Rattle.jser_reader.specs.WholesTold.{WholeCases}
-use Rattle.jser_index.proofs.TurnLemmas.{wants_more, turns, takes_item}
-use Rattle.jser_index.proofs.WholeLemmas.{nothing_done}
-use Rattle.jser_index.proofs.ShowLemmas.{show_laws, does_say, says_stopped, says_front, item_front, says_all, due_front, ok_by, err_by, err_any}
-use Rattle.jser_index.proofs.SaidLemmas.{said_laws, said_whole, whole_front}
+use Rattle.std.proofs.Common.{[], refl, ap, ◌∙◌}
+use Rattle.jser_prim.specs.Outgoing.{sink_state}
+use Rattle.jser_reader.specs.declared.FeedFault.TheVariants as feed_fault
+use Rattle.jser_index.specs.SaidItems.{HoldsOn}
+use Rattle.jser_index.proofs.SaidLemmas.{fed_said, fed_front, fed_off, fed_out, fed_holds}
+use Rattle.jser_index.proofs.ShowLemmas.{show_laws, says_all, due_front, ok_by, err_by}
 use Rattle.jser_index.proofs.show.write_along.Goals as goal
 
-pub returns-then-has_failed-clause-said : goal.returns-then-has_failed-clause-said
-returns-then-has_failed-clause-said g c =
-    says_stopped c.args.bytes.now c.items.rest.now c.items.reader.machine c.items.reader.tally c.args.printer.now c.items.printer c.args.outbox.now c.items.outbox _ _
-    (show_laws c.told.ensures c.tells_fronts.ensures) c.items.invariant (search rules)
+pub returns-in-Err-Reader-clause-front : goal.returns-in-Err-Reader-clause-front
+returns-in-Err-Reader-clause-front g c =
+    fed_front c.args.writer.now (λ w. w.outbox.now) (λ w. sink_state (g.W.Sink.gone_out w.sink.now) (g.W.Sink.has_failed w.sink.now)) (λ w. w.printer.now) (λ y z. HoldsOn y z) c.one_more.ensures
+    (show_laws c.told.ensures c.tells_fronts.ensures) c.args.bytes.now
+    c.in-Err-Reader.field-0 c.in-Err-Reader.field-0-0 c.args.reader.now.machine c.feed.new.self.machine c.args.reader.now.tally c.feed.new.self.tally c.feed.new.visitor
+    c.in-Err-Reader.field-0-is c.requires c.in-Err-Reader.ensures.visits
 
-pub returns-in-Err-clause-front : goal.returns-in-Err-clause-front
-returns-in-Err-clause-front g c =
-    says_front c.args.bytes.now c.items.rest.now c.items.reader.machine c.items.reader.tally c.args.printer.now c.items.printer c.args.outbox.now c.items.outbox _ _
-    (show_laws c.told.ensures c.tells_fronts.ensures) c.items.invariant
+pub returns-in-Err-Visitor-OutOfMemory-clause-front : goal.returns-in-Err-Visitor-OutOfMemory-clause-front
+returns-in-Err-Visitor-OutOfMemory-clause-front g c =
+    fed_out c.args.writer.now (λ w. w.outbox.now) (λ w. sink_state (g.W.Sink.gone_out w.sink.now) (g.W.Sink.has_failed w.sink.now)) (λ w. w.printer.now) (λ y z. HoldsOn y z) c.one_more.ensures
+    (show_laws c.told.ensures c.tells_fronts.ensures) c.args.bytes.now
+    c.in-Err-Visitor-OutOfMemory.field-0 c.args.reader.now.machine c.feed.new.self.machine c.args.reader.now.tally c.feed.new.self.tally c.feed.new.visitor
+    (c.in-Err-Visitor-OutOfMemory.field-0-is ∙ ap feed_fault.Visitor c.in-Err-Visitor-OutOfMemory.field-0-0-is) c.requires c.in-Err-Visitor-OutOfMemory.ensures.visits
 
-pub returns-in_err-write_whole-in-Ok-Some-clause-front : goal.returns-in_err-write_whole-in-Ok-Some-clause-front
-returns-in_err-write_whole-in-Ok-Some-clause-front g c =
-    err_any c.from_residual.result
-    (whole_front c.args.bytes.now c.items.rest.now c.split_at.result.1.now c.in-Ok-Some.whole c.items.reader.machine c.items.reader.tally
-    c.next_whole.new.self.machine c.next_whole.new.self.tally c.args.printer.now c.items.printer c.args.outbox.now c.items.outbox c.write_whole.new.outbox _ _ _
-    (said_laws c.one_more.ensures (show_laws c.told.ensures c.tells_fronts.ensures)) c.items.invariant
-    (subst (λ o. WholeCases open_gate c.items.rest.now (Ok o) c.items.reader.machine c.items.reader.tally c.next_whole.new.self.machine c.next_whole.new.self.tally)
-    c.in-Ok-Some.field-0-is c.in-Ok-Some.ensures.tells) (search rules) c.in_err-write_whole-in-Ok-Some.ensures.front)
+pub returns-in-Err-Visitor-Sink-clause-said : goal.returns-in-Err-Visitor-Sink-clause-said
+returns-in-Err-Visitor-Sink-clause-said g c =
+    fed_off c.args.writer.now (λ w. w.outbox.now) (λ w. sink_state (g.W.Sink.gone_out w.sink.now) (g.W.Sink.has_failed w.sink.now)) (λ w. w.printer.now) (λ y z. HoldsOn y z) c.one_more.ensures
+    (show_laws c.told.ensures c.tells_fronts.ensures) c.args.bytes.now
+    c.in-Err-Visitor-Sink.field-0 c.args.reader.now.machine c.feed.new.self.machine c.args.reader.now.tally c.feed.new.self.tally c.feed.new.visitor
+    (c.in-Err-Visitor-Sink.field-0-is ∙ ap feed_fault.Visitor c.in-Err-Visitor-Sink.field-0-0-is) c.requires c.in-Err-Visitor-Sink.ensures.visits
 
-pub items-preserved-in-Ok-Some : goal.items-preserved-in-Ok-Some
-items-preserved-in-Ok-Some g c =
-    said_whole c.args.bytes.now c.items.rest.now c.split_at.result.1.now c.in-Ok-Some.whole c.items.reader.machine c.items.reader.tally
-    c.next_whole.new.self.machine c.next_whole.new.self.tally c.args.printer.now c.items.printer c.write_whole.new.printer c.args.outbox.now c.items.outbox c.write_whole.new.outbox _ _ _
-    c.one_more.ensures c.items.invariant
-    (subst (λ o. WholeCases open_gate c.items.rest.now (Ok o) c.items.reader.machine c.items.reader.tally c.next_whole.new.self.machine c.next_whole.new.self.tally)
-    c.in-Ok-Some.field-0-is c.in-Ok-Some.ensures.tells) (search rules) c.in_ok-write_whole-in-Ok-Some.ensures.said
-
-pub returns-in-Err-next-clause-front : goal.returns-in-Err-next-clause-front
-returns-in-Err-next-clause-front g c =
-    says_front c.args.bytes.now c.items.rest.now c.next_whole.new.self.machine c.next_whole.new.self.tally c.args.printer.now c.items.printer c.args.outbox.now c.items.outbox _ _
-    (show_laws c.told.ensures c.tells_fronts.ensures)
-    (nothing_done c.args.bytes.now c.items.rest.now c.items.reader.machine c.items.reader.tally c.next_whole.new.self.machine c.next_whole.new.self.tally _
-    (subst (λ o. WholeCases open_gate c.items.rest.now (Ok o) c.items.reader.machine c.items.reader.tally c.next_whole.new.self.machine c.next_whole.new.self.tally)
-    c.in-Ok-None.field-0-is c.in-Ok-None.ensures.tells) c.items.invariant)
-
-pub items-preserved-in-Ok-More : goal.items-preserved-in-Ok-More
-items-preserved-in-Ok-More g c =
-    wants_more c.args.bytes.now c.items.rest.now _ c.next_whole.new.self.machine c.next_whole.new.self.tally c.next.new.self.machine c.next.new.self.tally _
-    (nothing_done c.args.bytes.now c.items.rest.now c.items.reader.machine c.items.reader.tally c.next_whole.new.self.machine c.next_whole.new.self.tally _
-    (subst (λ o. WholeCases open_gate c.items.rest.now (Ok o) c.items.reader.machine c.items.reader.tally c.next_whole.new.self.machine c.next_whole.new.self.tally)
-    c.in-Ok-None.field-0-is c.in-Ok-None.ensures.tells) c.items.invariant)
-    (subst (λ s. TellsItems open_gate c.items.rest.now (Ok s) c.next_whole.new.self.machine c.next_whole.new.self.tally c.next.new.self.machine c.next.new.self.tally)
-    c.in-Ok-More.field-0-is c.in-Ok-More.ensures.items) (search rules) refl
-
-pub returns-in_err-write_item-in-Ok-Item-clause-front : goal.returns-in_err-write_item-in-Ok-Item-clause-front
-returns-in_err-write_item-in-Ok-Item-clause-front g c =
-    err_any c.from_residual-in_err-write_item-in-Ok-Item.result
-    (item_front c.args.bytes.now c.split_at-in-Ok-Item.result.1.now c.in-Ok-Item.item c.next.new.self.machine c.next.new.self.tally c.args.printer.now c.items.printer
-    c.args.outbox.now c.items.outbox c.write_item.new.outbox _ _ _ c.one_more.ensures (show_laws c.told.ensures c.tells_fronts.ensures)
-    (turns c.args.bytes.now c.items.rest.now c.split_at-in-Ok-Item.result.0.now c.split_at-in-Ok-Item.result.1.now c.in-Ok-Item.item c.in-Ok-Item.used
-    c.next_whole.new.self.machine c.next_whole.new.self.tally c.next.new.self.machine c.next.new.self.tally _
-    (nothing_done c.args.bytes.now c.items.rest.now c.items.reader.machine c.items.reader.tally c.next_whole.new.self.machine c.next_whole.new.self.tally _
-    (subst (λ o. WholeCases open_gate c.items.rest.now (Ok o) c.items.reader.machine c.items.reader.tally c.next_whole.new.self.machine c.next_whole.new.self.tally)
-    c.in-Ok-None.field-0-is c.in-Ok-None.ensures.tells) c.items.invariant)
-    (subst (λ s. TellsItems open_gate c.items.rest.now (Ok s) c.next_whole.new.self.machine c.next_whole.new.self.tally c.next.new.self.machine c.next.new.self.tally)
-    c.in-Ok-Item.field-0-is c.in-Ok-Item.ensures.items)
-    (subst (HasProgress c.items.rest.now) c.in-Ok-Item.field-0-is c.in-Ok-Item.ensures.progress).0
-    (subst (HasProgress c.items.rest.now) c.in-Ok-Item.field-0-is c.in-Ok-Item.ensures.progress).1
-    (search rules) (search rules))
-    c.in_err-write_item-in-Ok-Item.ensures.front c.in_err-write_item-in-Ok-Item.ensures.length)
-
-pub items-preserved : goal.items-preserved
-items-preserved g c =
-    takes_item c.args.bytes.now c.split_at-in-Ok-Item.result.1.now c.in-Ok-Item.item c.next.new.self.machine c.next.new.self.tally _ _
-    (turns c.args.bytes.now c.items.rest.now c.split_at-in-Ok-Item.result.0.now c.split_at-in-Ok-Item.result.1.now c.in-Ok-Item.item c.in-Ok-Item.used
-    c.next_whole.new.self.machine c.next_whole.new.self.tally c.next.new.self.machine c.next.new.self.tally _
-    (nothing_done c.args.bytes.now c.items.rest.now c.items.reader.machine c.items.reader.tally c.next_whole.new.self.machine c.next_whole.new.self.tally _
-    (subst (λ o. WholeCases open_gate c.items.rest.now (Ok o) c.items.reader.machine c.items.reader.tally c.next_whole.new.self.machine c.next_whole.new.self.tally)
-    c.in-Ok-None.field-0-is c.in-Ok-None.ensures.tells) c.items.invariant)
-    (subst (λ s. TellsItems open_gate c.items.rest.now (Ok s) c.next_whole.new.self.machine c.next_whole.new.self.tally c.next.new.self.machine c.next.new.self.tally)
-    c.in-Ok-Item.field-0-is c.in-Ok-Item.ensures.items)
-    (subst (HasProgress c.items.rest.now) c.in-Ok-Item.field-0-is c.in-Ok-Item.ensures.progress).0
-    (subst (HasProgress c.items.rest.now) c.in-Ok-Item.field-0-is c.in-Ok-Item.ensures.progress).1
-    (search rules) (search rules))
-    (does_say c.args.bytes.now c.split_at-in-Ok-Item.result.1.now c.in-Ok-Item.item c.args.printer.now c.items.printer c.write_item.new.printer c.args.outbox.now c.items.outbox
-    c.write_item.new.outbox _ _ _ c.one_more.ensures c.in_ok-write_item-in-Ok-Item.ensures.said c.in_ok-write_item-in-Ok-Item.ensures.goes
-    c.in_ok-write_item-in-Ok-Item.ensures.same)
-
-pub returns-clause-said : goal.returns-clause-said
-returns-clause-said g c =
+pub returns-in-Ok-clause-said : goal.returns-in-Ok-clause-said
+returns-in-Ok-clause-said g c =
     ok_by c.write_all_due.result c.write_all_due.ensures.said
-    (says_all c.args.bytes.now c.items.rest.now c.items.reader.machine c.items.reader.tally c.args.printer.now c.items.printer c.args.outbox.now c.items.outbox
-    c.write_all_due.new.outbox _ _ _ (show_laws c.told.ensures c.tells_fronts.ensures) c.items.invariant (search rules))
+    (says_all c.args.bytes.now [] c.feed.new.self.machine c.feed.new.self.tally c.args.writer.now.printer.now c.feed.new.visitor.printer.now c.args.writer.now.outbox.now
+    c.feed.new.visitor.outbox.now c.write_all_due.new.outbox _ _ _ (show_laws c.told.ensures c.tells_fronts.ensures)
+    (fed_said c.args.writer.now (λ w. w.outbox.now) (λ w. sink_state (g.W.Sink.gone_out w.sink.now) (g.W.Sink.has_failed w.sink.now)) (λ w. w.printer.now) (λ y z. HoldsOn y z) c.one_more.ensures
+    (show_laws c.told.ensures c.tells_fronts.ensures) c.args.bytes.now
+    c.args.reader.now.machine c.feed.new.self.machine c.args.reader.now.tally c.feed.new.self.tally c.feed.new.visitor c.requires c.in-Ok.ensures.visits) refl)
 
-pub returns-clause-front : goal.returns-clause-front
-returns-clause-front g c =
+pub returns-in-Ok-clause-front : goal.returns-in-Ok-clause-front
+returns-in-Ok-clause-front g c =
     err_by c.write_all_due.result c.write_all_due.ensures.front
-    (due_front c.args.bytes.now c.items.rest.now c.items.reader.machine c.items.reader.tally c.args.printer.now c.items.printer c.args.outbox.now c.items.outbox
-    c.write_all_due.new.outbox _ _ _ (show_laws c.told.ensures c.tells_fronts.ensures) c.items.invariant (search rules))
+    (due_front c.args.bytes.now [] c.feed.new.self.machine c.feed.new.self.tally c.args.writer.now.printer.now c.feed.new.visitor.printer.now c.args.writer.now.outbox.now
+    c.feed.new.visitor.outbox.now c.write_all_due.new.outbox _ _ _ (show_laws c.told.ensures c.tells_fronts.ensures)
+    (fed_said c.args.writer.now (λ w. w.outbox.now) (λ w. sink_state (g.W.Sink.gone_out w.sink.now) (g.W.Sink.has_failed w.sink.now)) (λ w. w.printer.now) (λ y z. HoldsOn y z) c.one_more.ensures
+    (show_laws c.told.ensures c.tells_fronts.ensures) c.args.bytes.now
+    c.args.reader.now.machine c.feed.new.self.machine c.args.reader.now.tally c.feed.new.self.tally c.feed.new.visitor c.requires c.in-Ok.ensures.visits) refl)
+
+pub returns-in-Err-Reader-clause-holds : goal.returns-in-Err-Reader-clause-holds
+returns-in-Err-Reader-clause-holds g c =
+    fed_holds c.args.writer.now (λ s. sink_state (g.W.Sink.gone_out s) (g.W.Sink.has_failed s)) c.one_more.ensures (show_laws c.told.ensures c.tells_fronts.ensures)
+    c.args.bytes.now c.feed.result c.args.reader.now.machine c.feed.new.self.machine c.args.reader.now.tally c.feed.new.self.tally c.feed.new.visitor c.requires c.feed.ensures.visits
+
+pub returns-in-Err-Visitor-OutOfMemory-clause-holds : goal.returns-in-Err-Visitor-OutOfMemory-clause-holds
+returns-in-Err-Visitor-OutOfMemory-clause-holds g c =
+    fed_holds c.args.writer.now (λ s. sink_state (g.W.Sink.gone_out s) (g.W.Sink.has_failed s)) c.one_more.ensures (show_laws c.told.ensures c.tells_fronts.ensures)
+    c.args.bytes.now c.feed.result c.args.reader.now.machine c.feed.new.self.machine c.args.reader.now.tally c.feed.new.self.tally c.feed.new.visitor c.requires c.feed.ensures.visits
+
+pub returns-in-Err-Visitor-Sink-clause-holds : goal.returns-in-Err-Visitor-Sink-clause-holds
+returns-in-Err-Visitor-Sink-clause-holds g c =
+    fed_holds c.args.writer.now (λ s. sink_state (g.W.Sink.gone_out s) (g.W.Sink.has_failed s)) c.one_more.ensures (show_laws c.told.ensures c.tells_fronts.ensures)
+    c.args.bytes.now c.feed.result c.args.reader.now.machine c.feed.new.self.machine c.args.reader.now.tally c.feed.new.self.tally c.feed.new.visitor c.requires c.feed.ensures.visits
+
+pub returns-in-Ok-clause-holds : goal.returns-in-Ok-clause-holds
+returns-in-Ok-clause-holds g c =
+    fed_holds c.args.writer.now (λ s. sink_state (g.W.Sink.gone_out s) (g.W.Sink.has_failed s)) c.one_more.ensures (show_laws c.told.ensures c.tells_fronts.ensures)
+    c.args.bytes.now c.feed.result c.args.reader.now.machine c.feed.new.self.machine c.args.reader.now.tally c.feed.new.self.tally c.feed.new.visitor c.requires c.feed.ensures.visits

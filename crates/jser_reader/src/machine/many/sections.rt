@@ -24,13 +24,14 @@ impl Machine {
     #[tactic(auto, using(crate::proofs::ManySections::no_raws, crate::proofs::ManySections::began_short))]
     #[inline(always)]
     pub(super) fn sections_from(
-        &self,
+        &mut self,
         last: SectionNumber,
         first: SectionNumber,
         room: usize,
     ) -> Began
-        requires { IsOn self.now.table.chains last first }
-        ensures { Begins self.now.table.chains (section_parts (layer_of self.now.table.chains first ∷ under self.now.table.chains last first)) room result }
+        requires { IsOn self.old.table.chains last first }
+        ensures begins { Begins self.old.table.chains (section_parts (layer_of self.old.table.chains first ∷ under self.old.table.chains last first)) room result }
+        ensures same { self.new ≡ self.old }
     {
         let mut used = 0;
         let mut section = first;
@@ -55,7 +56,7 @@ impl Machine {
                 let frame = Frame::Notes { last, section };
                 return Began::Open { used, frame };
             }
-            match self.table.next_section(last, section) {
+            match self.section_behind(last, section) {
                 None => return Began::Ended { used },
                 Some(next) => section = next,
             }
@@ -66,15 +67,16 @@ impl Machine {
     #[tactic(auto, using(crate::proofs::ManySections::none_after, crate::proofs::ManySections::some_after))]
     #[inline(always)]
     pub(super) fn sections_after(
-        &self,
+        &mut self,
         last: SectionNumber,
         section: SectionNumber,
         room: usize,
     ) -> Began
-        requires { IsOn self.now.table.chains last section }
-        ensures { Begins self.now.table.chains (section_parts (under self.now.table.chains last section)) room result }
+        requires { IsOn self.old.table.chains last section }
+        ensures begins { Begins self.old.table.chains (section_parts (under self.old.table.chains last section)) room result }
+        ensures same { self.new ≡ self.old }
     {
-        match self.table.next_section(last, section) {
+        match self.section_behind(last, section) {
             None => Began::Ended { used: 0 },
             Some(next) => self.sections_from(last, next, room),
         }
@@ -84,13 +86,14 @@ impl Machine {
     #[tactic(auto, using(crate::proofs::ManySections::notes_after, crate::proofs::ManySections::sections_behind))]
     #[inline(always)]
     pub(super) fn after_section(
-        &self,
+        &mut self,
         last: SectionNumber,
         section: SectionNumber,
         room: usize,
     ) -> Began
-        requires { IsOn self.now.table.chains last section }
-        ensures { Begins self.now.table.chains (parts_behind self.now.table.chains last section) room result }
+        requires { IsOn self.old.table.chains last section }
+        ensures begins { Begins self.old.table.chains (parts_behind self.old.table.chains last section) room result }
+        ensures same { self.new ≡ self.old }
     {
         let held = self.table.section(section);
         if held.is_annotated {

@@ -6,7 +6,7 @@ ghost use Rattle.jser_reader.specs.ClassNames.{HasName, JudgesName};
 use crate::gate::Gate;
 use crate::machine::Machine;
 use crate::machine::flow::Flow;
-use crate::machine::pass::passed::Passed;
+use crate::machine::passed::Passed;
 use crate::machine::take::text_bytes::add_units;
 use crate::phase::{Phase, TextFor};
 use crate::tally::Tally;

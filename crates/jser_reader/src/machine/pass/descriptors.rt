@@ -7,7 +7,7 @@ ghost use Rattle.jser_reader.specs.Takes.{TakesFromFor};
 
 use crate::gate::Gate;
 use crate::machine::Machine;
-use crate::machine::pass::passed::Passed;
+use crate::machine::passed::Passed;
 use crate::machine::take::taken::Taken;
 use crate::phase::Phase;
 use crate::tally::Tally;
@@ -36,7 +36,7 @@ impl Machine {
 
     /// Takes bytes of the token of this phase, which comes next or is open, where no count changes with it.
     #[inline(always)]
-    pub(super) fn pass_known<G: Gate>(&mut self, gate: &G, piece: &[u8], phase: Phase) -> Passed
+    pub(crate) fn pass_known<G: Gate>(&mut self, gate: &G, piece: &[u8], phase: Phase) -> Passed
         requires can { CanPass self.old piece.now }
         requires some { 0 < length piece.now }
         requires phase { self.old.phase ≡ phase }
@@ -139,7 +139,7 @@ impl Machine {
 
     /// Takes tokens with which no count changes, as many as come one after another.
     #[inline(always)]
-    pub(super) fn pass_quiets<G: Gate>(&mut self, gate: &G, piece: &[u8]) -> Passed
+    pub(crate) fn pass_quiets<G: Gate>(&mut self, gate: &G, piece: &[u8]) -> Passed
         requires can { CanPass self.old piece.now }
         requires some { 0 < length piece.now }
         requires quiet { IsQuiet self.old.phase }

@@ -1,16 +1,18 @@
-//! Fields of a descriptor of which all bytes are in the piece: the type code, the name, and the type where that is a
-//! reference, in one step; a type that is a new string in another. As many as come are taken one after another.
+//! Declared fields of a descriptor of which all bytes are in the piece: the type code, the name, and the type where that is a
+//! reference, in one step; a type that is a new string in another. As many as come are taken one after another, or one is lent.
 ghost use Rattle.std.specs.Prelude.{◌≡◌, ◌+◌, ◌^◌, ◌<◌, ◌≤◌, true, false, get_or, length, IfSome, Some};
 ghost use Rattle.jser_table.specs.Codes.{is_object_code};
 ghost use Rattle.jser_verdict.specs.Gates.{Gate as ToldGate};
 ghost use Rattle.jser_reader.specs.Passes.{Passes, CanPass};
 ghost use Rattle.jser_reader.specs.Takes.{farther};
 ghost use Rattle.jser_reader.specs.Wholes.{AssignsText, HasText};
+ghost use Rattle.jser_reader.specs.FieldsTold.{FieldCases};
 ghost use Rattle.jser_reader.specs.Members.{BeginsMember, HasType, MemberCases};
 
+use crate::item::Field;
 use crate::machine::Machine;
 use crate::machine::fields::is_object_code;
-use crate::machine::wholes::number_after;
+use crate::machine::wholes::{number_after, size_of_field, text_in};
 use crate::phase::{Phase, TextFor};
 use crate::tally::Tally;
 use jser_grammar::wire::{BASE_WIRE_HANDLE, TC_REFERENCE, TC_STRING};
@@ -67,55 +69,61 @@ impl Machine {
 
     /// Takes a field with this type code of a primitive type, whose name has so many bytes; or does nothing.
     #[inline(always)]
-    fn raw_member(&mut self, piece: &[u8], code: u8, len: usize) -> Option<usize>
+    fn raw_member<'p>(&mut self, piece: &'p [u8], code: u8, len: usize) -> Option<Field<'p>>
         requires can { CanPass self.old piece.now }
         requires phase { self.old.phase ≡ Phase.TypeCode }
         requires code { code ≡ get_or piece.now 0 0 }
         requires raw { false ≡ is_object_code code }
         requires name { HasText piece.now len }
-        ensures { MemberCases piece.now result self.old self.new }
+        ensures { FieldCases piece.now result self.old self.new }
     {
-        let _ = piece;
         if !self.begin_member(code, false) {
             return None;
         }
         self.at += len as u64 + 3;
         self.fields_done();
-        Some(len + 3)
+        Some(Field {
+            code,
+            name: text_in(piece, len),
+            type_handle: None,
+        })
     }
 
     /// Takes the type code of an object or an array and the name of its field, which has so many bytes; or does nothing.
     #[inline(always)]
-    fn named_member(&mut self, piece: &[u8], code: u8, len: usize) -> Option<usize>
+    fn named_member<'p>(&mut self, piece: &'p [u8], code: u8, len: usize) -> Option<Field<'p>>
         requires can { CanPass self.old piece.now }
         requires phase { self.old.phase ≡ Phase.TypeCode }
         requires code { code ≡ get_or piece.now 0 0 }
         requires object { true ≡ is_object_code code }
         requires name { HasText piece.now len }
-        ensures { MemberCases piece.now result self.old self.new }
+        ensures { FieldCases piece.now result self.old self.new }
     {
-        let _ = piece;
         if !self.begin_member(code, true) {
             return None;
         }
         self.at += len as u64 + 3;
         self.next_type();
-        Some(len + 3)
+        Some(Field {
+            code,
+            name: text_in(piece, len),
+            type_handle: None,
+        })
     }
 
     /// Takes a field with this type code of an object or an array, whose name has so many bytes, with its type where that is
     /// a reference that is whole in the piece; or does nothing.
     #[inline(always)]
-    fn typed_member(&mut self, piece: &[u8], code: u8, len: usize) -> Option<usize>
+    fn typed_member<'p>(&mut self, piece: &'p [u8], code: u8, len: usize) -> Option<Field<'p>>
         requires can { CanPass self.old piece.now }
         requires phase { self.old.phase ≡ Phase.TypeCode }
         requires code { code ≡ get_or piece.now 0 0 }
         requires object { true ≡ is_object_code code }
         requires name { HasText piece.now len }
-        ensures { MemberCases piece.now result self.old self.new }
+        ensures { FieldCases piece.now result self.old self.new }
     {
         let (_, rest) = piece.split_at(len + 3);
-        let Some(_) = self.type_here(rest) else {
+        let Some(handle) = self.type_here(rest) else {
             return self.named_member(piece, code, len);
         };
         if !self.begin_member(code, true) {
@@ -123,15 +131,19 @@ impl Machine {
         }
         self.at += len as u64 + 8;
         self.fields_done();
-        Some(len + 8)
+        Some(Field {
+            code,
+            name: text_in(piece, len),
+            type_handle: Some(handle),
+        })
     }
 
-    /// Takes a field of a descriptor, where it is whole in the piece; or does nothing.
+    /// Takes a field of a descriptor, where it is whole in the piece, and lends it; or does nothing.
     #[inline(always)]
-    fn whole_member(&mut self, piece: &[u8]) -> Option<usize>
+    fn whole_member<'p>(&mut self, piece: &'p [u8]) -> Option<Field<'p>>
         requires can { CanPass self.old piece.now }
         requires phase { self.old.phase ≡ Phase.TypeCode }
-        ensures { MemberCases piece.now result self.old self.new }
+        ensures { FieldCases piece.now result self.old self.new }
     {
         let Some(len) = name_after(piece) else {
             return None;
@@ -141,6 +153,17 @@ impl Machine {
             return self.typed_member(piece, code, len);
         }
         self.raw_member(piece, code, len)
+    }
+
+    /// Takes a declared field that comes next, where it is whole in the piece, and lends it; or does nothing.
+    #[inline(always)]
+    pub(crate) fn lend_field<'p>(&mut self, piece: &'p [u8]) -> Option<Field<'p>>
+        ensures { FieldCases piece.now result self.old self.new }
+    {
+        if self.phase != Phase::TypeCode || !self.has_room(piece) {
+            return None;
+        }
+        self.whole_member(piece)
     }
 
     /// So many bytes more were taken.
@@ -189,7 +212,10 @@ impl Machine {
         ensures { MemberCases piece.now result self.old self.new }
     {
         match self.phase {
-            Phase::TypeCode => self.whole_member(piece),
+            Phase::TypeCode => match self.whole_member(piece) {
+                Some(field) => Some(size_of_field(field)),
+                None => None,
+            },
             Phase::TextTag => self.whole_type(piece),
             _ => None,
         }

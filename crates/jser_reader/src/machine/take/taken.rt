@@ -4,7 +4,7 @@ ghost use Rattle.jser_reader.specs.Passes.{passed_of};
 ghost use Rattle.jser_reader.specs.Takes.{taken_by};
 
 use crate::machine::flow::Flow;
-use crate::machine::pass::passed::Passed;
+use crate::machine::passed::Passed;
 
 /// What came of the bytes of a piece that a token was handed.
 #[derive(Clone, Copy)]

@@ -1,4 +1,4 @@
-use Rattle.std.proofs.Common.{rules, None, sym}
+use Rattle.std.proofs.Common.{None, sym}
 use Rattle.jser_index.proofs.KeptLemmas.{extends_none}
 use Rattle.jser_index.proofs.StoredLemmas.{node_pushed, node_told}
 use Rattle.jser_index.proofs.nodes.Nodes.push.Goals as goal

@@ -1,4 +1,4 @@
-use Rattle.std.proofs.Common.{rules, Some, sym}
+use Rattle.std.proofs.Common.{Some, sym}
 use Rattle.std.proofs.lemmas.Result.{on_ok_weaker}
 use Rattle.jser_index.proofs.StoredLemmas.{node_pushed, node_told, adds_node}
 use Rattle.jser_index.proofs.nodes.Nodes.push_string.Goals as goal

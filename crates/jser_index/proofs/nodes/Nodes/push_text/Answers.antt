@@ -1,5 +1,5 @@
-use Rattle.std.proofs.Common.{rules, Some, sym, ◌∙◌, ap}
-use Rattle.jser_index.proofs.StoredLemmas.{node_pushed, node_told, units_told}
+use Rattle.std.proofs.Common.{Some, sym}
+use Rattle.jser_index.proofs.StoredLemmas.{node_pushed, units_told}
 use Rattle.jser_index.proofs.nodes.Nodes.push_text.Goals as goal
 
 pub invariant_of-self-2 : goal.invariant_of-self-2

@@ -1,4 +1,4 @@
-use Rattle.std.proofs.Common.{rules, ap}
+use Rattle.std.proofs.Common.{rules}
 use Rattle.jser_index.proofs.KeptLemmas.{narrow_kept}
 use Rattle.jser_index.proofs.strings.Strings.add_text.Goals as goal
 

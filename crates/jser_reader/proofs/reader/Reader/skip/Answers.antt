@@ -1,4 +1,5 @@
-use Rattle.std.proofs.Common.{rules, arith, refl, sym, ap, subst, Some, None}
+use Rattle.std.proofs.Common.{rules, arith, refl, sym, ◌∙◌, subst, Some, None, Err}
+use Rattle.jser_reader.specs.ReaderStates.{SkipTells}
 use Rattle.jser_reader.specs.States.{AnswersStop}
 use Rattle.jser_reader.specs.Passes.{Passes}
 use Rattle.jser_reader.proofs.NextLemmas.{no_bytes, stays_stopped, not_stopped, keeps_stopped, keeps_going}
@@ -19,29 +20,28 @@ returns-then-is_stopped-clause-memory g c = inside_stopped c.answer.result c.arg
 
 pub steps-init : goal.steps-init
 steps-init g c = record {
-  gate = ap (λ r. r.gate) c.self.view_is;
+  gate = refl;
   within = omega arith;
-  passes =
-      subst (λ r. Passes (g.G.Gate.told c.args.self.now.gate) c.args.piece.now (Some 0) c.args.self.now.machine c.args.self.now.tally r.machine r.tally) (sym c.self.view_is)
-      (pass_none _ c.args.piece.now _ _);
+  passes = pass_none _ c.args.piece.now _ _;
   goes_on = search rules;
 }
 
 pub returns-in-Stopped-clause-tells : goal.returns-in-Stopped-clause-tells
 returns-in-Stopped-clause-tells g c =
-    halts_skip _ c.args.piece.now c.answer-in-Stopped.result _ _ _ _ _
+    subst (λ r. SkipTells (g.G.Gate.told c.args.self.now.gate) c.args.piece.now (Err c.answer-in-Stopped.result) c.args.self.now.machine c.args.self.now.tally c.answer-in-Stopped.new.self r.tally) (sym c.self-in-steps.view_is)
+    (halts_skip _ c.args.piece.now c.answer-in-Stopped.result _ _ _ _ _
     (then_halts _ c.args.piece.now c.split_at.result.1.now c.steps.used _ _ _ _ _ _ c.steps.invariant.passes
-    (subst (λ x. Passes (g.G.Gate.told x) c.split_at.result.1.now None c.steps.self-inside.machine c.steps.self-inside.tally c.pass.new.self c.pass.new.tally) c.steps.invariant.gate c.in-Stopped.ensures.passes)
+    (subst (λ x. Passes (g.G.Gate.told x) c.split_at.result.1.now None c.steps.self.machine c.steps.self.tally c.pass.new.self.machine c.pass.new.self.tally) c.steps.invariant.gate c.in-Stopped.ensures.passes)
     c.split_at.ensures.back)
-    c.answer-in-Stopped.ensures
+    (subst (λ r. AnswersStop c.answer-in-Stopped.result r.machine c.answer-in-Stopped.new.self) c.self-in-steps.view_is c.answer-in-Stopped.ensures))
 
 pub returns-in-Stopped-clause-memory : goal.returns-in-Stopped-clause-memory
 returns-in-Stopped-clause-memory g c =
     halts_memory _ c.args.piece.now c.answer-in-Stopped.result _ _ _ _ _
     (then_halts _ c.args.piece.now c.split_at.result.1.now c.steps.used _ _ _ _ _ _ c.steps.invariant.passes
-    (subst (λ x. Passes (g.G.Gate.told x) c.split_at.result.1.now None c.steps.self-inside.machine c.steps.self-inside.tally c.pass.new.self c.pass.new.tally) c.steps.invariant.gate c.in-Stopped.ensures.passes)
+    (subst (λ x. Passes (g.G.Gate.told x) c.split_at.result.1.now None c.steps.self.machine c.steps.self.tally c.pass.new.self.machine c.pass.new.self.tally) c.steps.invariant.gate c.in-Stopped.ensures.passes)
     c.split_at.ensures.back)
-    c.answer-in-Stopped.ensures
+    (subst (λ r. AnswersStop c.answer-in-Stopped.result r.machine c.answer-in-Stopped.new.self) c.self-in-steps.view_is c.answer-in-Stopped.ensures)
 
 pub returns-in-Stopped-clause-stays : goal.returns-in-Stopped-clause-stays
 returns-in-Stopped-clause-stays g c = not_stopped _ _ _ c.steps.invariant.goes_on
@@ -52,11 +52,11 @@ steps-preserved g c =
     let left = c.split_at.ensures.back_len in
     let before = c.steps.invariant.within in
     record {
-      gate = c.steps.invariant.gate;
+      gate = c.pass.ensures.gate ∙ c.steps.invariant.gate;
       within = omega arith;
       passes =
           then_passes _ c.args.piece.now c.split_at.result.1.now c.steps.used c.in-Took.more _ _ _ _ _ _ c.steps.invariant.passes
-          (subst (λ x. Passes (g.G.Gate.told x) c.split_at.result.1.now (Some c.in-Took.more) c.steps.self-inside.machine c.steps.self-inside.tally c.pass.new.self c.pass.new.tally) c.steps.invariant.gate c.in-Took.ensures.passes)
+          (subst (λ x. Passes (g.G.Gate.told x) c.split_at.result.1.now (Some c.in-Took.more) c.steps.self.machine c.steps.self.tally c.pass.new.self.machine c.pass.new.self.tally) c.steps.invariant.gate c.in-Took.ensures.passes)
           c.split_at.ensures.back;
       goes_on = c.steps.invariant.goes_on;
     }

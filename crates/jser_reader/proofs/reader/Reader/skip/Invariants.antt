@@ -5,9 +5,9 @@ use Rattle.jser_reader.proofs.reader.Reader.skip.Given as goal
 
 abbrev pub invariant-steps : goal.invariant-steps
 invariant-steps g l = record {
-  gate : l.self-inside.gate ≡ l.fn.self.gate;
+  gate : l.self.gate ≡ l.fn.self.gate;
   within : l.used ≤ length l.piece;
-  passes : Passes (g.G.Gate.told l.fn.self.gate) l.piece (Some l.used) l.fn.self.machine l.fn.self.tally l.self-inside.machine l.self-inside.tally;
+  passes : Passes (g.G.Gate.told l.fn.self.gate) l.piece (Some l.used) l.fn.self.machine l.fn.self.tally l.self.machine l.self.tally;
   goes_on : l.fn.self.machine.phase ≡ phase.Stopped → ⊥;
 }
 
