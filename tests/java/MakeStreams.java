@@ -1,5 +1,7 @@
 import java.awt.BorderLayout;
 import java.io.BufferedOutputStream;
+import java.io.ByteArrayOutputStream;
+import java.io.DataOutputStream;
 import java.io.Externalizable;
 import java.io.FilterOutputStream;
 import java.io.IOException;
@@ -16,6 +18,7 @@ import java.math.BigDecimal;
 import java.math.BigInteger;
 import java.nio.file.Files;
 import java.nio.file.Path;
+import java.security.Principal;
 import java.time.Duration;
 import java.time.Instant;
 import java.time.LocalDate;
@@ -25,6 +28,8 @@ import java.util.*;
 import java.util.concurrent.ConcurrentHashMap;
 import java.util.function.IntFunction;
 import java.util.function.Supplier;
+import javax.security.auth.Subject;
+import javax.security.auth.x500.X500Principal;
 import javax.swing.JButton;
 import javax.swing.JCheckBox;
 import javax.swing.JLabel;
@@ -32,10 +37,11 @@ import javax.swing.JPanel;
 import javax.swing.tree.DefaultMutableTreeNode;
 
 /**
- * Writes streams of the kinds that Java programs write, to measure with: `java MakeStreams FOLDER BYTES [KIND..]`. Each
+ * Writes streams of the kinds that Java programs write, to measure with: `java MakeStreams [--frames] FOLDER BYTES [KIND..]`. Each
  * kind (all, if none is named) becomes a file KIND.ser of at least so many bytes, made by the JDK's own ObjectOutputStream.
- * Without words it prints the kinds. The same JDK writes the same bytes each time: random numbers have a seed, no clock is
- * asked, and no hash of an identity decides an order.
+ * With `--frames` before the folder it becomes a file KIND.frames, where each part is a stream of its own, behind its length
+ * in four bytes. Without words it prints the kinds. The same JDK writes the same bytes each time: random numbers have a seed,
+ * no clock is asked, and no hash of an identity decides an order.
  */
 public class MakeStreams {
     /** How many things a list holds that is written by one call. */
@@ -43,7 +49,8 @@ public class MakeStreams {
     private static final int SEED = 7;
     private static final Map<String, Kind> KINDS = new LinkedHashMap<>();
 
-    private record Kind(String what, Part part) {}
+    /** A kind of streams, whose parts may each have a reset after it. */
+    private record Kind(String what, Part part, boolean resets) {}
 
     /** Writes one more part of a stream. */
     private interface Part { void write(ObjectOutputStream out, int number, Random chance) throws IOException; }
@@ -67,14 +74,15 @@ public class MakeStreams {
 
     /** A kind whose parts are things, each with a reset after it. */
     private static void resets(String name, String what, Thing thing) {
-        put(name, what, (out, number, chance) -> {
-            out.writeObject(thing.of(number, chance));
-            out.reset();
-        });
+        put(name, new Kind(what, (out, number, chance) -> out.writeObject(thing.of(number, chance)), true));
     }
 
     private static void put(String name, String what, Part part) {
-        if (KINDS.put(name, new Kind(what, part)) != null) throw new IllegalArgumentException(name);
+        put(name, new Kind(what, part, false));
+    }
+
+    private static void put(String name, Kind kind) {
+        if (KINDS.put(name, kind) != null) throw new IllegalArgumentException(name);
     }
 
     private static void fill() {
@@ -164,12 +172,17 @@ public class MakeStreams {
     private static void epochs() {
         resets("sessions", "sessions of a web server: maps of seven attributes, each with a reset after it", (i, chance) -> session(i));
         resets("messages", "small values of ten classes by turns, each with a reset after it", MakeStreams::message);
+        resets("security-contexts", "who is logged in: a Subject with a user and two roles, each with a reset after it", (i, chance) -> subject(i));
         resets("bean-resets", "beans of two strings and an int, each with a reset after it", (i, chance) -> new Address(i));
     }
 
     // The classes of the things.
 
     enum Colour { RED, GREEN, BLUE, WHITE, BLACK }
+
+    record Role(String name) implements Principal, Serializable {
+        @Override public String getName() { return name; }
+    }
 
     static class Address implements Serializable {
         private static final long serialVersionUID = 1;
@@ -517,6 +530,14 @@ public class MakeStreams {
         return session;
     }
 
+    private static Subject subject(int number) {
+        Set<Principal> names = new LinkedHashSet<>();
+        names.add(new X500Principal("CN=user " + number + ", O=Example"));
+        names.add(new Role("reader"));
+        names.add(new Role(number % 5 == 0 ? "admin" : "writer"));
+        return new Subject(true, names, Set.of(), Set.of());
+    }
+
     private static Object message(int number, Random chance) {
         return switch (number % 10) {
             case 0 -> new Address(number);
@@ -555,13 +576,34 @@ public class MakeStreams {
         Random chance = new Random(SEED);
         try (Counted counted = new Counted(new BufferedOutputStream(Files.newOutputStream(file)));
             ObjectOutputStream out = new ObjectOutputStream(counted)) {
-            for (int number = 0; counted.size < size; number++) kind.part.write(out, number, chance);
+            for (int number = 0; counted.size < size; number++) {
+                kind.part.write(out, number, chance);
+                if (kind.resets) out.reset();
+            }
         }
     }
 
-    private static void writeAll(Path folder, long size, Collection<String> names) throws IOException {
+    private static void writeFrames(Path file, Kind kind, long size) throws IOException {
+        Random chance = new Random(SEED);
+        ByteArrayOutputStream stream = new ByteArrayOutputStream();
+        try (DataOutputStream frames = new DataOutputStream(new BufferedOutputStream(Files.newOutputStream(file)))) {
+            for (int number = 0; frames.size() < size; number++) {
+                stream.reset();
+                try (ObjectOutputStream out = new ObjectOutputStream(stream)) {
+                    kind.part.write(out, number, chance);
+                }
+                frames.writeInt(stream.size());
+                stream.writeTo(frames);
+            }
+        }
+    }
+
+    private static void writeAll(boolean framed, Path folder, long size, Collection<String> names) throws IOException {
         Files.createDirectories(folder);
-        for (String name : names) write(folder.resolve(name + ".ser"), KINDS.get(name), size);
+        for (String name : names) {
+            if (framed) writeFrames(folder.resolve(name + ".frames"), KINDS.get(name), size);
+            else write(folder.resolve(name + ".ser"), KINDS.get(name), size);
+        }
     }
 
     private static void stop(Object why) {
@@ -569,8 +611,10 @@ public class MakeStreams {
         System.exit(1);
     }
 
-    public static void main(String[] words) throws Exception {
+    public static void main(String[] given) throws Exception {
         fill();
+        boolean framed = given.length > 0 && given[0].equals("--frames");
+        String[] words = framed ? Arrays.copyOfRange(given, 1, given.length) : given;
         if (words.length < 2) {
             KINDS.forEach((name, kind) -> System.out.println(name + " ".repeat(20 - name.length()) + kind.what));
             return;
@@ -580,7 +624,7 @@ public class MakeStreams {
         // What is deep is written by calls inside calls.
         Thread writer = new Thread(null, () -> {
             try {
-                writeAll(Path.of(words[0]), Long.parseLong(words[1]), named.isEmpty() ? KINDS.keySet() : named);
+                writeAll(framed, Path.of(words[0]), Long.parseLong(words[1]), named.isEmpty() ? KINDS.keySet() : named);
             } catch (Throwable fault) {
                 stop(fault);
             }
