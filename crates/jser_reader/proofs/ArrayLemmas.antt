@@ -1,9 +1,7 @@
 -- The length of an array, and the elements that come after it.
-use Rattle.std.proofs.Common.{◌≡◌, ℕ, zero, suc, ◌-◌, ◌*◌, ◌^◌, ◌<◌, ◌≤◌, true, false, nat_lt, nat_le, [], ◌∷◌, length, Option, Some, None, option_map, refl, sym, ◌∙◌, ap, subst, arith}
-use Rattle.std.proofs.lemmas.Bool.Decides.{nat_tests}
+use Rattle.std.proofs.Common.{◌≡◌, ℕ, zero, suc, ◌-◌, ◌*◌, ◌<◌, [], ◌∷◌, length, Option, Some, None, option_map, refl, sym, ◌∙◌, ap, subst, arith}
 use Rattle.jser_table.specs.Codes.{PrimCode, size_of}
 use Rattle.jser_reading.specs.Goals.{State, settle, parts_goal, body_parts, raw_part, value_part, value_parts}
-use Rattle.jser_verdict.specs.Reasons.{negative_length, array_exceeded}
 use Rattle.jser_verdict.specs.Verdicts.{array_reason}
 use Rattle.jser_reader.specs.declared.machine.flow.Flow.{Flow}
 use Rattle.jser_reader.specs.declared.machine.flow.Flow.TheVariants as flow
@@ -15,7 +13,9 @@ use Rattle.jser_reader.specs.Readers.{Seen, Ready, moment_of, goals_of, depth_of
 use Rattle.jser_reader.specs.Steps.{after_value}
 use Rattle.jser_reader.specs.Handlers.{StopsWith, refusal, moved, Comes, Tells, IsNext, plain_gate}
 use Rattle.jser_reader.specs.Numbers.{after_length}
-use Rattle.jser_reader.proofs.EndLemmas.{next_is, tells_next, tells_refusal}
+use Rattle.jser_reader.proofs.EndLemmas.{next_is, tells_next}
+use Rattle.jser_reader.specs.declared.refusal.Reason.{Reason as CodeReason}
+use Rattle.jser_reader.proofs.RuleLemmas.{no_reason, tells_first}
 
 -- raw elements
 
@@ -63,38 +63,27 @@ no_room s b old new h e = rw e h
 
 -- the length itself
 
-pub negative : (n : ℕ) (b : Flow) (s : State) (old new : Seen) → StopsWith (refusal old.meter (named negative_length)) old new → b ≡ flow.Stopped → 0x80000000 ≤ n → Tells (array_reason (plain_gate old) n) s b old new
-negative n b s old new h e l =
-    let is : nat_le (2 ^ 31) n ≡ true = grind (arith, nat_tests) in tells_refusal negative_length (array_reason (plain_gate old) n) s b old new h e (rw is refl)
+pub wrong_length : (n : ℕ) (why : CodeReason) (b : Flow) (s : State) (old new : Seen) → Some why ≡ option_map named (array_reason (plain_gate old) n) → StopsWith (refusal old.meter why) old new
+    → b ≡ flow.Stopped → Tells (array_reason (plain_gate old) n) s b old new
+wrong_length n why b s old new e h eb = tells_first (array_reason (plain_gate old) n) (array_reason (plain_gate old) n) why s b old new e (λ k is. is) h eb
 
-pub too_long : (n : ℕ) (b : Flow) (s : State) (old new : Seen) → StopsWith (refusal old.meter (named array_exceeded)) old new → b ≡ flow.Stopped → (0x80000000 ≤ n → ⊥) → old.meter.limits.array < n → Tells (array_reason (plain_gate old) n) s b old new
-too_long n b s old new h e small l =
-    let is : nat_le (2 ^ 31) n ≡ false = grind (arith, nat_tests) in
-    let long : nat_lt old.meter.limits.array n ≡ true = grind (arith, nat_tests) in
-    tells_refusal array_exceeded (array_reason (plain_gate old) n) s b old new h e (rw is (rw long refl))
-
-quiet : (n : ℕ) (r : Seen) → (0x80000000 ≤ n → ⊥) → (r.meter.limits.array < n → ⊥) → array_reason (plain_gate r) n ≡ None
-quiet n r small short =
-    let is : nat_le (2 ^ 31) n ≡ false = grind (arith, nat_tests) in
-    let long : nat_lt r.meter.limits.array n ≡ false = grind (arith, nat_tests) in rw is (rw long refl)
-
-pub no_elements : (n : ℕ) (elements : Option PrimCode) (b : Flow) (old new : Seen) → Comes old new (after_value old) → b ≡ flow.On → n ≡ 0 → (0x80000000 ≤ n → ⊥) → (old.meter.limits.array < n → ⊥)
+pub no_elements : (n : ℕ) (elements : Option PrimCode) (b : Flow) (old new : Seen) → Comes old new (after_value old) → b ≡ flow.On → n ≡ 0 → None ≡ option_map named (array_reason (plain_gate old) n)
     → Tells (array_reason (plain_gate old) n) (after_length old elements n) b old new
 unfolding after_length after_value
-no_elements n None b old new h e none small short =
+no_elements n None b old new h e none right =
     tells_next (array_reason (plain_gate old) n) (after_length old None n) b old new
-    (subst (Comes old new) (sym (ap (λ k. settle (moment_of old) (parts_goal (depth_of old) (body_parts None k) ∷ goals_of old)) none)) h) e (quiet n old small short)
-no_elements n (Some c) b old new h e none small short =
+    (subst (Comes old new) (sym (ap (λ k. settle (moment_of old) (parts_goal (depth_of old) (body_parts None k) ∷ goals_of old)) none)) h) e (no_reason (array_reason (plain_gate old) n) right)
+no_elements n (Some c) b old new h e none right =
     tells_next (array_reason (plain_gate old) n) (after_length old (Some c) n) b old new
-    (subst (Comes old new) (sym (ap (λ k. settle (moment_of old) (parts_goal (depth_of old) (body_parts (Some c) k) ∷ goals_of old)) none)) h) e (quiet n old small short)
+    (subst (Comes old new) (sym (ap (λ k. settle (moment_of old) (parts_goal (depth_of old) (body_parts (Some c) k) ∷ goals_of old)) none)) h) e (no_reason (array_reason (plain_gate old) n) right)
 
 pub some_raw : (n size : ℕ) (b : Flow) (old new : Seen) → ((elements : Option PrimCode) → option_map size_of elements ≡ Some size → Tells None (after_length old elements n) b old new)
-    → old.elements ≡ Some size → (0x80000000 ≤ n → ⊥) → (old.meter.limits.array < n → ⊥)
+    → old.elements ≡ Some size → None ≡ option_map named (array_reason (plain_gate old) n)
     → (elements : Option PrimCode) → old.elements ≡ option_map size_of elements → Tells (array_reason (plain_gate old) n) (after_length old elements n) b old new
-some_raw n size b old new h kept small short elements is =
-    subst (λ t. Tells t (after_length old elements n) b old new) (sym (quiet n old small short)) (h elements (sym is ∙ kept))
+some_raw n size b old new h kept right elements is =
+    subst (λ t. Tells t (after_length old elements n) b old new) (sym (no_reason (array_reason (plain_gate old) n) right)) (h elements (sym is ∙ kept))
 
-pub some_values : (n : ℕ) (b : Flow) (old new : Seen) → Tells None (after_length old None n) b old new → old.elements ≡ None → (0x80000000 ≤ n → ⊥) → (old.meter.limits.array < n → ⊥)
+pub some_values : (n : ℕ) (b : Flow) (old new : Seen) → Tells None (after_length old None n) b old new → old.elements ≡ None → None ≡ option_map named (array_reason (plain_gate old) n)
     → (elements : Option PrimCode) → old.elements ≡ option_map size_of elements → Tells (array_reason (plain_gate old) n) (after_length old elements n) b old new
-some_values n b old new h kept small short None is = subst (λ t. Tells t (after_length old None n) b old new) (sym (quiet n old small short)) h
-some_values n b old new h kept small short (Some c) is = absurd (let e = sym kept ∙ is in cc)
+some_values n b old new h kept right None is = subst (λ t. Tells t (after_length old None n) b old new) (sym (no_reason (array_reason (plain_gate old) n) right)) h
+some_values n b old new h kept right (Some c) is = absurd (let e = sym kept ∙ is in cc)

@@ -1,22 +1,19 @@
 -- Class places: their tags, and the handles of classes that have been read.
-use Rattle.std.proofs.Common.{◌≡◌, ℕ, suc, ◌-◌, zero, ◌<◌, ◌≤◌, ◌⊎◌, inl, inr, Bool, true, false, nat_le, List, [], ◌∷◌, length, slice_get, Option, Some, None, refl, sym, ap, subst, arith}
+use Rattle.std.proofs.Common.{◌≡◌, ℕ, suc, ◌-◌, ◌<◌, ◌⊎◌, inl, inr, Bool, true, false, length, Option, Some, None, refl, sym, ap, subst, arith, option_map}
 use Rattle.std.proofs.lemmas.Bool.Decides.{nat_tests}
 use Rattle.jser_table.specs.declared.layer.Fit.{Fit}
 use Rattle.jser_table.specs.declared.layer.Fit.TheVariants as fit
-use Rattle.jser_table.specs.declared.class.Class.TheVariants as class
 use Rattle.jser_table.specs.Chains.{chain_in}
-use Rattle.jser_table.specs.Entries.{TableEntry, text_entry, other_entry, pending_entry, closed_entry, is_pending, chain_at, chain_of}
-use Rattle.jser_table.specs.Tables.{IsClass}
+use Rattle.jser_table.specs.Entries.{chain_at, chain_of}
 use Rattle.jser_reading.specs.Labels.{class_place_at, class_handle_at}
 use Rattle.jser_reading.specs.TokenBytes.{tag_byte}
 use Rattle.jser_reading.specs.TokensFromBytes.{tag_from}
 use Rattle.jser_reading.specs.Goals.{State}
 use Rattle.jser_reading.specs.Roles.{object_owner, array_owner, enum_owner, class_owner}
 use Rattle.jser_reading.specs.Roles.{Owner as GoalOwner}
-use Rattle.jser_verdict.specs.Reasons.{Reason, bad_tag, null_class, no_such_handle, wrong_kind, open_descriptor, wrong_class, external_raw, not_serializable, handle_space}
+use Rattle.jser_verdict.specs.Reasons.{Reason, bad_tag, null_class, wrong_class, handle_space}
 use Rattle.jser_verdict.specs.TagRows.{is_known_tag}
-use Rattle.jser_verdict.specs.HandleRows.{is_no_handle, entry_named, is_no_descriptor}
-use Rattle.jser_verdict.specs.ClassRows.{fit_of_owner, fit_at, is_wrong, is_raw, is_unserial}
+use Rattle.jser_verdict.specs.ClassRows.{fit_of_owner}
 use Rattle.jser_verdict.specs.Verdicts.{told_if, class_tag_reason, class_handle_reason}
 use Rattle.jser_reader.specs.declared.machine.flow.Flow.{Flow}
 use Rattle.jser_reader.specs.declared.machine.flow.Flow.TheVariants as flow
@@ -24,7 +21,6 @@ use Rattle.jser_reader.specs.declared.frame.Owner.{Owner}
 use Rattle.jser_reader.specs.declared.frame.Owner.TheVariants as owner
 use Rattle.jser_reader.specs.declared.frame.Role.TheVariants as role
 use Rattle.jser_reader.specs.declared.phase.Phase.TheVariants as phase
-use Rattle.jser_reader.specs.declared.refusal.Reason.TheVariants as reason
 use Rattle.jser_reader.specs.declared.refusal.Reason.{Reason as CodeReason}
 use Rattle.jser_reader.specs.declared.tag.ValueTag.{ValueTag}
 use Rattle.jser_reader.specs.declared.tag.ValueTag.TheVariants as value
@@ -32,9 +28,10 @@ use Rattle.jser_reader.specs.Tags.{view_tag, block_byte, IsTagOf}
 use Rattle.jser_reader.specs.Reasons.{named}
 use Rattle.jser_reader.specs.Frames.{goal_owner}
 use Rattle.jser_reader.specs.Readers.{Seen, Ready}
-use Rattle.jser_reader.specs.Classes.{fit_reason}
+use Rattle.jser_reader.specs.Rules.{fit_reason, IsClassOf, with_fit}
 use Rattle.jser_reader.specs.Handlers.{StopsWith, refusal, Tells, IsNext, is_full, plain_gate, label_at, after_class_tag, opens_class, opens_proxy, owner_state}
 use Rattle.jser_reader.proofs.EndLemmas.{next_is, tells_next, tells_refusal}
+use Rattle.jser_reader.proofs.RuleLemmas.{tells_first, fit_first, fit_at_class, fit_told}
 
 -- the reason for a byte in the class place of this owner
 abbrev tag_reason : Seen → GoalOwner → ℕ → Option Reason
@@ -160,88 +157,24 @@ enum_proxy found old new h ef e = at_owner owner.EnumConst found old new e (refu
 abbrev handle_reason : Seen → GoalOwner → ℕ → Option Reason
 handle_reason r o n = class_handle_reason (plain_gate r) (label_at (class_handle_at o) (suc (length r.frames)) r) o n
 
--- the reason by the entry, where the handle is one
-abbrev entry_reason : Seen → GoalOwner → Option TableEntry → Option Reason
-entry_reason r o e =
-    told_if (is_no_descriptor e) wrong_kind
-    (told_if (is_pending e) open_descriptor
-    (told_if (fit_at o e is_wrong) wrong_class
-    (told_if (fit_at o e is_raw) external_raw
-    (told_if (fit_at o e is_unserial) not_serializable (told_if (is_full r) handle_space None)))))
+pub wrong_class_handle : (o : Owner) (n : ℕ) (why : CodeReason) (s : State) (found : Flow) (old new : Seen) → old.owner ≡ o → Some why ≡ option_map named (with_fit old.table (goal_owner o) n None)
+    → StopsWith (refusal old.meter why) old new → found ≡ flow.Stopped → Tells (handle_reason old (goal_owner old.owner) n) s found old new
+wrong_class_handle o n why s found old new eo e h ef =
+    tells_first (with_fit old.table (goal_owner old.owner) n None) (handle_reason old (goal_owner old.owner) n) why s found old new
+    (subst (λ w. Some why ≡ option_map named (with_fit old.table (goal_owner w) n None)) (sym eo) e)
+    (fit_first old.table old.owner n (told_if (is_full old) handle_space None)) h ef
 
-pub within : (T : List TableEntry) (k : ℕ) (e : TableEntry) → slice_get T k ≡ Some e → k < length T
-within [] k e h = absurd (cc)
-within (x ∷ T) zero e h = omega arith
-within (x ∷ T) (suc k) e h = let l = within T k e h in omega arith
-
-pub beyond : (T : List TableEntry) (k : ℕ) → slice_get T k ≡ None → length T ≤ k
-beyond [] k h = omega arith
-beyond (x ∷ T) zero h = absurd (cc)
-beyond (x ∷ T) (suc k) h = let l = beyond T k h in omega arith
-
-at_entry : (r : Seen) (o : GoalOwner) (n : ℕ) (e : TableEntry) → 0x7E0000 ≤ n → slice_get r.table.entries (n - 0x7E0000) ≡ Some e → handle_reason r o n ≡ entry_reason r o (Some e)
-at_entry r o n e low h =
-    let l = within r.table.entries (n - 0x7E0000) e h in
-    let is : is_no_handle r.table.entries n ≡ false = grind (arith, nat_tests) in
-    let named_is : entry_named r.table.entries n ≡ Some e = let t : nat_le 0x7E0000 n ≡ true = grind (arith, nat_tests) in rw t h in
-    rw is (ap (entry_reason r o) named_is)
-
-pub low_class : (n : ℕ) (s : State) (found : Flow) (old new : Seen) → StopsWith (refusal old.meter (named no_such_handle)) old new → found ≡ flow.Stopped → n < 0x7E0000
-    → Tells (handle_reason old (goal_owner old.owner) n) s found old new
-low_class n s found old new h ef l =
-    let is : is_no_handle old.table.entries n ≡ true = grind (arith, nat_tests) in
-    tells_refusal no_such_handle (handle_reason old (goal_owner old.owner) n) s found old new h ef (rw is refl)
-
-pub no_such_class : (n : ℕ) (s : State) (found : Flow) (old new : Seen) → StopsWith (refusal old.meter (named no_such_handle)) old new → found ≡ flow.Stopped
-    → IsClass old.table.chains (slice_get old.table.entries (n - 0x7E0000)) class.NotThere → (n < 0x7E0000 → ⊥)
-    → Tells (handle_reason old (goal_owner old.owner) n) s found old new
-no_such_class n s found old new h ef none low =
-    let l = beyond old.table.entries (n - 0x7E0000) none in
-    let is : is_no_handle old.table.entries n ≡ true = grind (arith, nat_tests) in
-    tells_refusal no_such_handle (handle_reason old (goal_owner old.owner) n) s found old new h ef (rw is refl)
-
-pub no_class : (n : ℕ) (s : State) (found : Flow) (old new : Seen) → StopsWith (refusal old.meter (named wrong_kind)) old new → found ≡ flow.Stopped
-    → IsClass old.table.chains (slice_get old.table.entries (n - 0x7E0000)) class.NoClass → (n < 0x7E0000 → ⊥)
-    → Tells (handle_reason old (goal_owner old.owner) n) s found old new
-no_class n s found old new h ef (inl t) low =
-    tells_refusal wrong_kind (handle_reason old (goal_owner old.owner) n) s found old new h ef (at_entry old (goal_owner old.owner) n text_entry (omega arith) t)
-no_class n s found old new h ef (inr t) low =
-    tells_refusal wrong_kind (handle_reason old (goal_owner old.owner) n) s found old new h ef (at_entry old (goal_owner old.owner) n other_entry (omega arith) t)
-
-pub open_class : (n : ℕ) (s : State) (found : Flow) (old new : Seen) → StopsWith (refusal old.meter (named open_descriptor)) old new → found ≡ flow.Stopped
-    → IsClass old.table.chains (slice_get old.table.entries (n - 0x7E0000)) class.Open → (n < 0x7E0000 → ⊥)
-    → Tells (handle_reason old (goal_owner old.owner) n) s found old new
-open_class n s found old new h ef t low =
-    tells_refusal open_descriptor (handle_reason old (goal_owner old.owner) n) s found old new h ef (at_entry old (goal_owner old.owner) n pending_entry (omega arith) t)
-
-abbrev fit_told : Fit → Option Reason → Option Reason
-fit_told f others = told_if (is_wrong f) wrong_class (told_if (is_raw f) external_raw (told_if (is_unserial f) not_serializable others))
-
-pub wrong_class_handle : (n chain : ℕ) (why : CodeReason) (s : State) (found : Flow) (old new : Seen) → StopsWith (refusal old.meter why) old new → found ≡ flow.Stopped
-    → IsClass old.table.chains (slice_get old.table.entries (n - 0x7E0000)) (class.Closed chain) → (n < 0x7E0000 → ⊥)
-    → Some why ≡ fit_reason (fit_of_owner (goal_owner old.owner) (chain_in old.table.chains chain))
-    → Tells (handle_reason old (goal_owner old.owner) n) s found old new
-wrong_class_handle n chain why s found old new h ef t low e =
-    let at = at_entry old (goal_owner old.owner) n (closed_entry (chain_in old.table.chains chain)) (omega arith) t.0 in
-    subst (λ k. Tells k s found old new) (sym at) (go (fit_of_owner (goal_owner old.owner) (chain_in old.table.chains chain)) e)
-  where
-    go : (f : Fit) → Some why ≡ fit_reason f → Tells (fit_told f (told_if (is_full old) handle_space None)) s found old new
-    go fit.Fits e = absurd (cc)
-    go fit.WrongClass e = let w : why ≡ reason.WrongClass = cc in tells_refusal wrong_class (Some wrong_class) s found old new (subst (λ k. StopsWith (refusal old.meter k) old new) w h) ef refl
-    go fit.ExternalRaw e = let w : why ≡ reason.ExternalRaw = cc in tells_refusal external_raw (Some external_raw) s found old new (subst (λ k. StopsWith (refusal old.meter k) old new) w h) ef refl
-    go fit.NotSerializable e = let w : why ≡ reason.NotSerializable = cc in tells_refusal not_serializable (Some not_serializable) s found old new (subst (λ k. StopsWith (refusal old.meter k) old new) w h) ef refl
-
-pub right_class : (n chain : ℕ) (found : Flow) (old new : Seen)
-    → Tells (told_if (is_full old) handle_space None) (owner_state old (chain_in old.table.chains chain)) found old new
-    → IsClass old.table.chains (slice_get old.table.entries (n - 0x7E0000)) (class.Closed chain) → (n < 0x7E0000 → ⊥)
-    → None ≡ fit_reason (fit_of_owner (goal_owner old.owner) (chain_in old.table.chains chain))
+pub right_class : (o : Owner) (n chain : ℕ) (found : Flow) (old new : Seen) → old.owner ≡ o
+    → Tells (told_if (is_full old) handle_space None) (owner_state old (chain_in old.table.chains chain)) found old new → IsClassOf old.table o n chain
     → Tells (handle_reason old (goal_owner old.owner) n) (owner_state old (chain_at old.table.entries (n - 0x7E0000))) found old new
-right_class n chain found old new h t low e =
-    let at = at_entry old (goal_owner old.owner) n (closed_entry (chain_in old.table.chains chain)) (omega arith) t.0 in
-    let same : chain_at old.table.entries (n - 0x7E0000) ≡ chain_in old.table.chains chain = ap chain_of t.0 in
+right_class o n chain found old new eo h c =
+    let at = fit_at_class old.table old.owner n chain (told_if (is_full old) handle_space None) c.closed in
+    let fits : None ≡ fit_reason (fit_of_owner (goal_owner old.owner) (chain_in old.table.chains chain)) =
+    subst (λ w. None ≡ fit_reason (fit_of_owner (goal_owner w) (chain_in old.table.chains chain))) (sym eo) c.fits in
+    let same : chain_at old.table.entries (n - 0x7E0000) ≡ chain_in old.table.chains chain = ap chain_of c.closed.is_class.0 in
     subst (λ k. Tells k (owner_state old (chain_at old.table.entries (n - 0x7E0000))) found old new) (sym at)
-    (subst (λ c. Tells (fit_told (fit_of_owner (goal_owner old.owner) (chain_in old.table.chains chain)) (told_if (is_full old) handle_space None)) (owner_state old c) found old new) (sym same)
-    (go (fit_of_owner (goal_owner old.owner) (chain_in old.table.chains chain)) e))
+    (subst (λ x. Tells (fit_told (fit_of_owner (goal_owner old.owner) (chain_in old.table.chains chain)) (told_if (is_full old) handle_space None)) (owner_state old x) found old new) (sym same)
+    (go (fit_of_owner (goal_owner old.owner) (chain_in old.table.chains chain)) fits))
   where
     go : (f : Fit) → None ≡ fit_reason f → Tells (fit_told f (told_if (is_full old) handle_space None)) (owner_state old (chain_in old.table.chains chain)) found old new
     go fit.Fits e = h

@@ -1,5 +1,5 @@
 -- A value that is lent at once: its items, one after another.
-use Rattle.std.proofs.Common.{◌≡◌, ℕ, suc, ◌+◌, ◌-◌, ◌^◌, ◌<◌, ◌≤◌, true, List, [], ◌∷◌, ◌++◌, length, get_or, take, drop, Some, None, Ok, Err, refl, sym, ◌∙◌, ap, subst, arith, length-append}
+use Rattle.std.proofs.Common.{◌≡◌, ℕ, suc, ◌+◌, ◌^◌, ◌<◌, ◌≤◌, true, List, [], ◌∷◌, ◌++◌, length, get_or, take, drop, Some, None, Ok, Err, refl, sym, ◌∙◌, ap, subst, arith, length-append, not, false}
 use Rattle.std.proofs.lemmas.List.{length-drop, length-take-le}
 use Rattle.jser_prim.specs.Bytes.{big_bytes}
 use Rattle.jser_table.specs.Entries.{text_entry}
@@ -52,6 +52,7 @@ use Rattle.jser_reader.proofs.ItemStands.{OpenItems, stands_items}
 use Rattle.jser_reader.proofs.ItemCalls.{machine_stands, comes_next, token_ended, lends_end, tells_end}
 use Rattle.jser_reader.proofs.PassLemmas.{quiet_next}
 use Rattle.jser_reader.proofs.WholeLemmas.{place_is_one, tag_taken, rest_can, same_end, same_meter, begun_reference, reference_begins, reference_passes, begun_string, string_begins, string_passes, begun_owner, owner_begins, at_class, class_tag_taken, same_class, TellsClass, second_is, two_on, owner_passes}
+use Rattle.jser_verdict.specs.HandleRows.{is_no_handle}
 
 -- ---- the tag
 
@@ -99,10 +100,10 @@ unfolding MakesItem
 makes_handle piece n small spelled = λ _. ap item.Handle (sym (number_4 n small) ∙ ap number_of spelled)
 
 pub reference_tells : (gate : Gate) (n : ℕ) (piece : List ℕ) (old far new : Seen) (before after : Tally) → IsGate gate → CanPass old piece → IsPlace old.phase
-    → 0x71 ≡ get_or piece 0 0 → HasNumber piece n → n < 2 ^ 32 → HasPlace old → (n < 0x7E0000 → ⊥) → (length old.table.entries ≤ n - 0x7E0000 → ⊥)
+    → 0x71 ≡ get_or piece 0 0 → HasNumber piece n → n < 2 ^ 32 → HasPlace old → is_no_handle old.table.entries n ≡ false
     → far ≡ placed old 5 → Comes far new (after_value far) → CountsNext old 0x71 before after
     → TellsReference gate piece n old before new after
-reference_tells gate n piece old far new before after g can i first h small p low high ef end count =
+reference_tells gate n piece old far new before after g can i first h small p named_is ef end count =
     let comes : Comes (placed old 5) new (after_value (placed old 5)) = subst (λ r. Comes r new (after_value r)) ef end in
     let enough = h.within in
     let m : Seen = begun_reference old in
@@ -118,10 +119,10 @@ reference_tells gate n piece old far new before after g can i first h small p lo
       number =
           quiet_tells gate (item.Handle n) 4 rest m new after
           (four_taken n flow.On (taken.Ended 4) rest (take 4 rest) m new
-          (takes_back_handle n 4 flow.On m (farther m 4) new (right_handle n flow.On (farther m 4) new ends refl low high) refl refl (omega arith) small)
+          (takes_back_handle n 4 flow.On m (farther m 4) new (right_handle n true flow.On (farther m 4) new (sym (ap not named_is)) refl ends refl) refl refl (omega arith) small)
           refl tt h.spelled refl (omega arith) gate)
           tt (rest_can piece old m can (omega arith) refl refl) (makes_handle rest n small h.spelled);
-      tells = (reference_passes gate n piece old far new before after g can i first h small p low high ef end count).tells;
+      tells = (reference_passes gate n piece old far new before after g can i first h small p named_is ef end count).tells;
     }
 
 -- ---- a string

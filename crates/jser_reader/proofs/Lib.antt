@@ -59,6 +59,7 @@ pub mod MemberLemmas
 pub mod LentLemmas
 pub mod FieldToldLemmas
 pub mod RestLemmas
+pub mod RuleLemmas
 pub mod PlainTextLemmas
 pub mod NameSteps
 pub mod ManyLemmas

@@ -1,15 +1,10 @@
 -- The loop over whole values: arrays.
-use Rattle.std.proofs.Common.{◌≡◌, ℕ, zero, suc, ◌+◌, ◌-◌, ◌*◌, ◌^◌, ◌<◌, ◌≤◌, false, List, ◌∷◌, length, get_or, take, drop, slice_get, Option, Some, None, option_map, refl, sym, ◌∙◌, ap, ap₂, subst, arith}
+use Rattle.std.proofs.Common.{◌≡◌, ℕ, zero, suc, ◌+◌, ◌-◌, ◌*◌, ◌^◌, ◌<◌, ◌≤◌, false, List, ◌∷◌, length, get_or, take, drop, Option, Some, None, option_map, refl, sym, ◌∙◌, ap, ap₂, subst, arith}
 use Rattle.std.proofs.lemmas.List.{length-drop, drop-drop}
 use Rattle.jser_prim.specs.Bytes.{big_bytes}
-use Rattle.jser_table.specs.declared.class.Class.TheVariants as class
-use Rattle.jser_table.specs.declared.layer.Fit.TheVariants as fit
-use Rattle.jser_table.specs.declared.layer.Purpose.TheVariants as purpose
 use Rattle.jser_table.specs.Chains.{chain_in, elements_of}
 use Rattle.jser_table.specs.Codes.{PrimCode, size_of}
 use Rattle.jser_table.specs.Entries.{other_entry}
-use Rattle.jser_table.specs.Fits.{fit_of}
-use Rattle.jser_table.specs.Tables.{IsClass}
 use Rattle.jser_reading.specs.Labels.{array_tag}
 use Rattle.jser_verdict.specs.Gates.{Gate, IsGate}
 use Rattle.jser_verdict.specs.Verdicts.{array_reason}
@@ -21,9 +16,9 @@ use Rattle.jser_reader.specs.declared.machine.many.counts.Turn.TheVariants as tu
 use Rattle.jser_reader.specs.declared.machine.take.taken.Taken.TheVariants as taken
 use Rattle.jser_reader.specs.declared.phase.Phase.TheVariants as phase
 use Rattle.jser_reader.specs.declared.tally.Tally.{Tally}
-use Rattle.jser_reader.specs.Classes.{fit_reason}
+use Rattle.jser_reader.specs.Rules.{IsClassOf}
 use Rattle.jser_reader.specs.Handlers.{Comes, Tells, moved, with_entry, added, pushed, is_full, plain_gate}
-use Rattle.jser_reader.specs.Many.{phase_on, seen_at, tally_with, tally_at, HoldsNext, with_place, with_depth, LeadsTo, Ends, IsArrayClass, ArrayBegins, Turns}
+use Rattle.jser_reader.specs.Many.{phase_on, seen_at, tally_with, tally_at, HoldsNext, with_place, with_depth, LeadsTo, Ends, ArrayBegins, Turns}
 use Rattle.jser_reader.specs.Numbers.{after_length}
 use Rattle.jser_reader.specs.Passes.{Passes}
 use Rattle.jser_reader.specs.Readers.{Seen, Ready}
@@ -43,26 +38,24 @@ use Rattle.jser_reader.proofs.PassLemmas.{quiet_end, then_passes}
 use Rattle.jser_reader.proofs.RestLemmas.{can_after}
 use Rattle.jser_reader.proofs.TakeLemmas.{takes_array_length}
 use Rattle.jser_reader.proofs.WholeLemmas.{TellsClass, owner_passes, raw_passes, same_end}
+use Rattle.jser_reader.proofs.RuleLemmas.{right_length, is_short}
+use Rattle.jser_reader.specs.Reasons.{named}
 
 -- ---- the class
-
-pub is_array_class : (r : Seen) (n chain : ℕ) → (n < 0x7E0000 → ⊥) → IsClass r.table.chains (slice_get r.table.entries (n - 0x7E0000)) (class.Closed chain)
-    → fit_of purpose.Array (chain_in r.table.chains chain) ≡ fit.Fits → IsArrayClass r n chain
-is_array_class r n chain low is_class fits = record { low = low; is_class = is_class; fits = fits }
 
 -- after the class: before the length
 abbrev at_length : Seen → (chain : ℕ) → Seen
 at_length r chain = record { meter = moved (with_class owner.Array r).meter; phase = phase.ArrayLength; frames = r.frames; layers = r.layers; table = with_entry r.table other_entry; refs = suc r.refs; owner = owner.Array; elements = option_map size_of (elements_of (chain_in r.table.chains chain)); header = r.header; text = r.text; left = r.left; scan = r.scan; name = r.name }
 
-class_told : (r : Seen) (n chain : ℕ) → IsArrayClass r n chain → is_full r ≡ false → TellsClass n flow.On (with_class owner.Array r) (at_length r chain)
+class_told : (r : Seen) (n chain : ℕ) → IsClassOf r.table owner.Array n chain → is_full r ≡ false → TellsClass n flow.On (with_class owner.Array r) (at_length r chain)
 class_told r n chain c full =
     let mid : Seen = with_class owner.Array r in
     let new : Seen = at_length r chain in
-    right_class n chain flow.On mid new
+    right_class owner.Array n chain flow.On mid new refl
     (array_owned (length r.table.entries) chain flow.On mid (added mid other_entry) new
     (record { phase_is = refl; frames = refl; layers = refl; table = refl; refs = refl; owner_is = refl; chain_is = refl; header_is = refl; text_is = refl; left = refl; meter = refl })
     refl (assigned_other mid full) refl)
-    c.is_class c.low (sym (ap fit_reason c.fits))
+    c
 
 -- the length ends, and this machine comes after it
 length_passes : (gate : Gate) (piece : List ℕ) (n chain count : ℕ) (old : Seen) (k : Counts) (before : Tally) (next : Seen) → ArrayBegins piece n chain count old k → is_full old ≡ false → IsGate gate
@@ -81,10 +74,9 @@ length_passes gate piece n chain count old k before next b full g told =
     let n6 = length-drop 6 rest in
     let can = rest_can piece old k b.holds.holds (omega arith) in
     let at : m.meter.at ≡ r.meter.at + 6 = omega arith in
-    let is : IsArrayClass r n chain = record { low = b.is.low; is_class = b.is.is_class; fits = b.is.fits } in
     then_passes gate rest last 6 4 r m next (tally_at old.meter.at before k) (tally_at old.meter.at before (with_place k 10)) (tally_at old.meter.at before (with_place k 10))
     (owner_passes gate owner.Array n flow.On rest r mid m (tally_at old.meter.at before k) (tally_at old.meter.at before (with_place k 10)) g
-    can (place_on old.frames) (tag_there piece k.used 0x75 b.tag) b.class b.small b.place refl (class_told r n chain is full)
+    can (place_on old.frames) (tag_there piece k.used 0x75 b.tag) b.class b.small b.place refl (class_told r n chain b.is full)
     (λ _ _. place_counted piece before old k 10 array_tag b.holds))
     (quiet_end gate 4 (taken.Ended 4) last m next (tally_at old.meter.at before (with_place k 10))
     (four_taken count flow.On (taken.Ended 4) last (take 4 last) m next
@@ -119,7 +111,7 @@ empty_turn piece n chain count old new k j b none assigns ej =
                 same_end (seen_at a i) r next comes
                 (ap (λ x. record { at = x; from = x; limits = old.meter.limits; stop = old.meter.stop; cut_phase = old.meter.cut_phase; kept = old.meter.kept }) (sym at)) refl refl refl refl in
                 length_passes gate piece n chain count old k before next b assigns.0 g
-                (λ elements es. no_elements count elements flow.On r next end refl none (λ over. let low = b.low in omega arith) (λ over. let short = b.short in omega arith));
+                (λ elements es. no_elements count elements flow.On r next end refl none (right_length r count (λ over. let low = b.low in omega arith) (λ over. let short = b.short in omega arith)));
           })),
       place_holds piece old new k j 10 b.holds.holds b.place (omega arith) (omega arith) (ap (λ r. r.meter) en) (ap (λ r. r.frames) en) ej,
       omega arith,
@@ -170,7 +162,7 @@ raw_turn piece n chain count size bytes old new k j b some elements eb any enoug
                 (λ codes es. raw_elements size count codes flow.On r (with_left r bytes) m
                 (record { phase_is = refl; frames = refl; layers = refl; table = refl; refs = refl; owner_is = refl; chain_is = refl; header_is = refl; text_is = refl; left = refl; meter = refl })
                 refl eb some es refl refl refl refl refl)
-                elements (λ over. let low = b.low in omega arith) (λ over. let short = b.short in omega arith)))
+                elements (right_length r count (λ over. let low = b.low in omega arith) (λ over. let short = b.short in omega arith))))
                 (raw_passes gate bytes (drop 10 rest) m (farther m bytes) next (tally_at old.meter.at before i) (can_after rest 10 (seen_at old k) m can (omega arith) (omega arith) there refl) refl refl any (omega arith) refl end)
                 refl;
           })),
@@ -231,7 +223,7 @@ values_turn piece n chain count old new k i j b some elements assigns ei ej =
               meter = meter;
               max = ap (λ r. r.table.max) en;
             }) refl refl)
-            elements (λ over. let low = b.low in omega arith) (λ over. let short = b.short in omega arith)));
+            elements (right_length r count (λ over. let low = b.low in omega arith) (λ over. let short = b.short in omega arith))));
         nothing = λ none. absurd (omega arith);
       },
       record {
@@ -244,9 +236,9 @@ values_turn piece n chain count old new k i j b some elements assigns ei ej =
 -- ---- what begins
 
 pub array_begins : (piece : List ℕ) (n chain count at : ℕ) (r : Seen) (k : Counts) → HoldsNext piece r k → HasPlace (seen_at r k) → (length piece - k.used < 10 → ⊥) → k.used ≤ length piece
-    → 0x75 ≡ get_or piece k.used 0 → HasReference (drop k.used piece) n → n < 2 ^ 32 → IsArrayClass r n chain → big_bytes 4 count ≡ take 4 (drop (k.used + 6) piece) → (2 ^ 31 ≤ count → ⊥)
-    → (r.meter.limits.array < count → ⊥) → ArrayBegins piece n chain count r k
-array_begins piece n chain count at r k h p room le tag class small is spelled low short = record {
+    → 0x75 ≡ get_or piece k.used 0 → HasReference (drop k.used piece) n → n < 2 ^ 32 → IsClassOf r.table owner.Array n chain → big_bytes 4 count ≡ take 4 (drop (k.used + 6) piece)
+    → None ≡ option_map named (array_reason (plain_gate r) count) → ArrayBegins piece n chain count r k
+array_begins piece n chain count at r k h p room le tag class small is spelled right = record {
   holds = h;
   place = p;
   room = omega arith;
@@ -255,8 +247,8 @@ array_begins piece n chain count at r k h p room le tag class small is spelled l
   small = small;
   is = is;
   spelled = spelled;
-  low = omega arith;
-  short = omega arith;
+  low = (is_short r count right).0;
+  short = (is_short r count right).1;
 }
 
 pub no_count : (piece : List ℕ) (n chain count : ℕ) (r : Seen) (k : Counts) → ArrayBegins piece n chain count r k → count ≡ 0 → ArrayBegins piece n chain 0 r k

@@ -1,24 +1,19 @@
 -- The loop over whole values: objects with no sections, and externalizable ones.
-use Rattle.std.proofs.Common.{◌≡◌, ℕ, suc, ◌+◌, ◌-◌, ◌^◌, ◌<◌, ◌≤◌, true, false, List, length, get_or, drop, slice_get, Some, None, refl, sym, ◌∙◌, ap, ap₂, subst, arith}
-use Rattle.jser_table.specs.declared.class.Class.TheVariants as class
-use Rattle.jser_table.specs.declared.layer.Fit.TheVariants as fit
-use Rattle.jser_table.specs.declared.layer.Purpose.TheVariants as purpose
+use Rattle.std.proofs.Common.{◌≡◌, ℕ, suc, ◌+◌, ◌^◌, ◌<◌, ◌≤◌, true, false, List, length, get_or, drop, Some, None, refl, sym, ◌∙◌, ap, ap₂, subst, arith}
 use Rattle.jser_table.specs.declared.section.Sections.{Sections}
 use Rattle.jser_table.specs.Chains.{chain_in, is_external}
 use Rattle.jser_table.specs.Entries.{other_entry}
-use Rattle.jser_table.specs.Fits.{fit_of}
 use Rattle.jser_table.specs.Sections.{AreSections}
-use Rattle.jser_table.specs.Tables.{IsClass}
 use Rattle.jser_reading.specs.Labels.{object_tag}
 use Rattle.jser_reader.specs.declared.machine.flow.Flow.TheVariants as flow
 use Rattle.jser_reader.specs.declared.frame.Frame.TheVariants as frame
 use Rattle.jser_reader.specs.declared.frame.Owner.TheVariants as owner
 use Rattle.jser_reader.specs.declared.machine.many.counts.Counts.{Counts}
 use Rattle.jser_reader.specs.declared.machine.many.counts.Turn.TheVariants as turn
-use Rattle.jser_reader.specs.Classes.{fit_reason}
+use Rattle.jser_reader.specs.Rules.{IsClassOf}
 use Rattle.jser_reader.specs.Many.{HasSections}
 use Rattle.jser_reader.specs.Handlers.{Pushes, BeginsObject, moved, added, pushed, is_full}
-use Rattle.jser_reader.specs.Many.{phase_on, seen_at, tally_with, tally_at, HoldsNext, with_place, with_depth, LeadsTo, Ends, IsObjectClass, ObjectBegins, Turns}
+use Rattle.jser_reader.specs.Many.{phase_on, seen_at, tally_with, tally_at, HoldsNext, with_place, with_depth, LeadsTo, Ends, ObjectBegins, Turns}
 use Rattle.jser_reader.specs.Passes.{Passes}
 use Rattle.jser_reader.specs.Readers.{Seen}
 use Rattle.jser_reader.specs.Steps.{after_value}
@@ -33,17 +28,13 @@ use Rattle.jser_reader.proofs.WholeLemmas.{TellsClass, owner_passes}
 
 -- ---- what the code asks
 
-pub is_object_class : (r : Seen) (n chain : ℕ) → (n < 0x7E0000 → ⊥) → IsClass r.table.chains (slice_get r.table.entries (n - 0x7E0000)) (class.Closed chain)
-    → fit_of purpose.Object (chain_in r.table.chains chain) ≡ fit.Fits → IsObjectClass r n chain
-is_object_class r n chain low is_class fits = record { low = low; is_class = is_class; fits = fits }
-
 pub object_begins_here : (piece : List ℕ) (n chain : ℕ) (r : Seen) (k : Counts) → HoldsNext piece r k → HasPlace (seen_at r k) → k.used + 6 ≤ length piece → 0x73 ≡ get_or piece k.used 0
-    → HasReference (drop k.used piece) n → n < 2 ^ 32 → IsObjectClass r n chain → ObjectBegins piece n chain r k
+    → HasReference (drop k.used piece) n → n < 2 ^ 32 → IsClassOf r.table owner.Object n chain → ObjectBegins piece n chain r k
 object_begins_here piece n chain r k h p room tag class small is = record { holds = h; place = p; room = room; tag = tag; class = class; small = small; is = is }
 
-pub sections_of : (r : Seen) (n chain : ℕ) (sections : Sections) → IsObjectClass r n chain → is_external (chain_in r.table.chains chain) ≡ false
+pub sections_of : (r : Seen) (n chain : ℕ) (sections : Sections) → IsClassOf r.table owner.Object n chain → is_external (chain_in r.table.chains chain) ≡ false
     → AreSections r.table.chains (chain_in r.table.chains chain) (Some sections) → HasSections r n sections
-sections_of r n chain sections is plain are = record { chain = chain; low = is.low; is_class = is.is_class; fits = is.fits; plain = plain; are = are }
+sections_of r n chain sections is plain are = record { chain = chain; is = is; plain = plain; are = are }
 
 -- ---- the class
 
@@ -51,15 +42,15 @@ sections_of r n chain sections is plain are = record { chain = chain; low = is.l
 abbrev begins : Seen → Seen
 begins r = let o : Seen = added (with_class owner.Object r) other_entry in record o { meter = moved o.meter }
 
-class_told : (r next : Seen) (n chain : ℕ) → IsObjectClass r n chain → is_full r ≡ false → BeginsObject (chain_in r.table.chains chain) flow.On (begins r) next
+class_told : (r next : Seen) (n chain : ℕ) → IsClassOf r.table owner.Object n chain → is_full r ≡ false → BeginsObject (chain_in r.table.chains chain) flow.On (begins r) next
     → TellsClass n flow.On (with_class owner.Object r) next
 class_told r next n chain c full object =
     let mid : Seen = with_class owner.Object r in
     let with_other : Seen = added mid other_entry in
-    right_class n chain flow.On mid next
+    right_class owner.Object n chain flow.On mid next refl
     (object_owned (length r.table.entries) chain flow.On mid with_other next
     (object_begins (chain_in r.table.chains chain) flow.On with_other (begins r) next object refl refl refl refl refl) (assigned_other mid full) refl)
-    c.is_class c.low (sym (ap fit_reason c.fits))
+    c
 
 same_meter : (old : Seen) (k : Counts) → moved (counted_on old.meter (k.used + 6)) ≡ moved (with_class owner.Object (seen_at old k)).meter
 same_meter old k =
@@ -77,7 +68,6 @@ bare_leads piece n chain old k b full plain none =
     let more : k.used < length piece = omega arith in
     let r : Seen = seen_at old k in
     let mid : Seen = with_class owner.Object r in
-    let is : IsObjectClass r n chain = record { low = b.is.low; is_class = b.is.is_class; fits = b.is.fits } in
     record {
       size = 6;
       some = omega arith;
@@ -87,7 +77,7 @@ bare_leads piece n chain old k b full plain none =
       to = λ gate g before next comes kept.
           owner_passes gate owner.Object n flow.On (drop k.used piece) r mid next (tally_at old.meter.at before k) (tally_at old.meter.at before (with_place k 6)) g
           (rest_can piece old k b.holds.holds more) (place_on old.frames) (tag_there piece k.used 0x73 b.tag) b.class b.small b.place refl
-          (class_told r next n chain is full
+          (class_told r next n chain b.is full
           (bare_object old.table.chains (chain_in old.table.chains chain) flow.On (begins r) next none refl plain comes.ready (comes.meter ∙ same_meter old k)
           (record { table = kept.table; layers = kept.layers; refs = kept.refs })))
           (λ _ _. place_counted piece before old k 6 object_tag b.holds);
@@ -122,7 +112,6 @@ external_turn piece n chain old new k i j b external assigns ei ej =
     let more : k.used < length piece = omega arith in
     let r : Seen = seen_at old k in
     let mid : Seen = with_class owner.Object r in
-    let is : IsObjectClass r n chain = record { low = b.is.low; is_class = b.is.is_class; fits = b.is.fits } in
     let e : j ≡ with_depth (with_place k 6) (k.depth + 1) = ej ∙ ap (λ x. with_depth x (x.depth + 1)) ei in
     let used : j.used ≡ k.used + 6 = ap (λ x. x.used) e in
     let deeper : j.depth ≡ k.depth + 1 = ap (λ x. x.depth) e in
@@ -150,7 +139,7 @@ external_turn piece n chain old new k i j b external assigns ei ej =
             (ap₂ (tally_with old.meter.at before) (sym items) (sym deepest))
             (owner_passes gate owner.Object n flow.On (drop k.used piece) r mid (seen_at new j) (tally_at old.meter.at before k) (tally_at old.meter.at before (with_place k 6)) g
             (rest_can piece old k b.holds.holds more) (place_on old.frames) (tag_there piece k.used 0x73 b.tag) b.class b.small b.place refl
-            (class_told r (seen_at new j) n chain is assigns.0
+            (class_told r (seen_at new j) n chain b.is assigns.0
             (external_object (chain_in old.table.chains chain) flow.On flow.On (begins r) (pushed (begins r) frame.ExternalNotes) (seen_at new j) (pushed_frame (begins r)) refl refl external
             (ap phase_on (ap (λ r. r.frames) en)) (ap (λ r. r.frames) en) (ap (λ r. r.layers) en) (ap (λ r. r.table) en) (ap (λ x. x.refs) e) meter))
             (λ _ _. place_counted piece before old k 6 object_tag b.holds));

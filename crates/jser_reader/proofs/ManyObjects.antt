@@ -16,7 +16,6 @@ use Rattle.jser_reader.specs.declared.frame.Frame.TheVariants as frame
 use Rattle.jser_reader.specs.declared.frame.Owner.TheVariants as owner
 use Rattle.jser_reader.specs.declared.machine.many.counts.Counts.{Counts}
 use Rattle.jser_reader.specs.declared.machine.many.counts.Turn.TheVariants as turn
-use Rattle.jser_reader.specs.Classes.{fit_reason}
 use Rattle.jser_reader.specs.Fitting.{HasParts, IsPart}
 use Rattle.jser_reader.specs.Many.{HasSections}
 use Rattle.jser_reader.specs.Wholes.{AssignsOther, with_class}
@@ -37,15 +36,10 @@ use Rattle.jser_reader.proofs.WholeLemmas.{TellsClass, owner_passes}
 
 -- ---- what the code asks
 
-pub reference_is : (piece rest number : List ℕ) (at n : ℕ) → at + 6 ≤ length piece → 0x71 ≡ get_or piece (at + 1) 0 → rest ≡ drop (at + 2) piece → number ≡ take 4 rest → big_bytes 4 n ≡ number
-    → HasReference (drop at piece) n
-reference_is piece rest number at n enough tag er en e =
+pub reference_is : (piece : List ℕ) (at n : ℕ) → at + 6 ≤ length piece → 0x71 ≡ get_or piece (at + 1) 0 → big_bytes 4 n ≡ take 4 (drop (at + 2) piece) → HasReference (drop at piece) n
+reference_is piece at n enough tag e =
     let l = length-drop at piece in
-    record {
-      within = omega arith;
-      tag = tag ∙ sym (get_or-drop at piece 1 0);
-      spelled = e ∙ en ∙ ap (take 4) (er ∙ sym (drop-drop 2 at piece));
-    }
+    record { within = omega arith; tag = tag ∙ sym (get_or-drop at piece 1 0); spelled = e ∙ ap (take 4) (sym (drop-drop 2 at piece)) }
 
 tag_there : (piece : List ℕ) (at tag : ℕ) → tag ≡ get_or piece at 0 → tag ≡ get_or (drop at piece) 0 0
 tag_there piece at tag e =
@@ -121,10 +115,10 @@ class_told r next n meter_at sections c full ready kept meter =
     (ready, record { table = kept.table; layers = kept.layers; refs = kept.refs }) in
     let object : BeginsObject chain flow.On begins next =
     filled_object chain sections flow.On flow.On begins opened next part (pushed_frame begins) refl refl c.plain c.are meter in
-    right_class n c.chain flow.On mid next
+    right_class owner.Object n c.chain flow.On mid next refl
     (object_owned (length r.table.entries) c.chain flow.On mid with_other next
     (object_begins chain flow.On with_other begins next object refl refl refl refl refl) (assigned_other mid full) refl)
-    c.is_class c.low (sym (ap fit_reason c.fits))
+    c.is
 
 abbrev with_other : Seen → Seen
 with_other r = added r other_entry
@@ -150,7 +144,7 @@ object_leads piece n old k sections h p room tag class small c full =
           owner_passes gate owner.Object n flow.On (drop k.used piece) r mid next (tally_at old.meter.at before k) (tally_at old.meter.at before (with_place k 6)) g
           (rest_can piece old k h.holds more) (place_on old.frames) (tag_there piece k.used 0x73 tag) class small p refl
           (class_told r next n 0 sections
-          (record { chain = c.chain; low = c.low; is_class = c.is_class; fits = c.fits; plain = c.plain; are = c.are }) full comes.ready
+          (record { chain = c.chain; is = c.is; plain = c.plain; are = c.are }) full comes.ready
           (record { table = kept.table; layers = kept.layers; refs = kept.refs }) (comes.meter ∙ same))
           (λ _ _. place_counted piece before old k 6 object_tag h);
     }

@@ -1,5 +1,5 @@
 -- The loop over whole values: values without a class.
-use Rattle.std.proofs.Common.{◌≡◌, ℕ, ◌+◌, ◌-◌, ◌^◌, ◌<◌, ◌≤◌, true, List, length, get_or, take, drop, refl, sym, ◌∙◌, ap, subst, arith}
+use Rattle.std.proofs.Common.{◌≡◌, ℕ, ◌+◌, ◌^◌, ◌<◌, ◌≤◌, true, List, length, get_or, take, drop, refl, sym, ◌∙◌, ap, subst, arith, false}
 use Rattle.std.proofs.Common.{get_or-drop}
 use Rattle.std.proofs.lemmas.List.{length-drop, drop-drop}
 use Rattle.jser_prim.specs.Bytes.{big_bytes}
@@ -18,16 +18,14 @@ use Rattle.jser_reader.specs.Wholes.{HasPlace, HasNumber, HasText, AssignsText, 
 use Rattle.jser_reader.proofs.ManyLemmas.{place_on, rest_can, meter_there, place_counted, place_holds}
 use Rattle.jser_reader.proofs.ValueLemmas.{null_begun, counted_tag}
 use Rattle.jser_reader.proofs.WholeLemmas.{same_end, tag_passes, reference_passes, string_passes}
+use Rattle.jser_verdict.specs.HandleRows.{is_no_handle}
 
 -- ---- what is at a place of the piece
 
-pub number_is : (piece rest number : List ℕ) (at n : ℕ) → at + 5 ≤ length piece → rest ≡ drop (at + 1) piece → number ≡ take 4 rest → big_bytes 4 n ≡ number → HasNumber (drop at piece) n
-number_is piece rest number at n enough er en e =
+pub number_is : (piece : List ℕ) (at n : ℕ) → at + 5 ≤ length piece → big_bytes 4 n ≡ take 4 (drop (at + 1) piece) → HasNumber (drop at piece) n
+number_is piece at n enough e =
     let l = length-drop at piece in
-    record {
-      within = omega arith;
-      spelled = e ∙ en ∙ ap (take 4) (er ∙ sym (drop-drop 1 at piece));
-    }
+    record { within = omega arith; spelled = e ∙ ap (take 4) (sym (drop-drop 1 at piece)) }
 
 pub tag_there : (piece : List ℕ) (at tag : ℕ) → tag ≡ get_or piece at 0 → tag ≡ get_or (drop at piece) 0 0
 tag_there piece at tag e =
@@ -63,20 +61,18 @@ null_ends piece old k j h p more tag ej = subst (λ j. LeadsTo piece old k old j
   to = λ gate g before next comes kept.
       let r : Seen = seen_at old k in
       let far : Seen = counted (farther r 1) in
-      let deep = p.shallow in
-      let few = p.few in
       let l = length-drop k.used piece in
       tag_passes gate value.Null (drop k.used piece) r next (tally_at old.meter.at before k) (tally_at old.meter.at before (with_place k 1)) g (rest_can piece old k h.holds more) (place_on old.frames)
       (omega arith) (tag_there piece k.used 0x70 tag)
-      (counted_tag null_tag flow.On (farther r 1) far next
-      (null_begun flow.On far next (ends_there old far old next k (with_place k 1) 1 refl refl refl refl refl refl refl comes) refl) refl (λ over. absurd (omega arith)) (λ over. absurd (omega arith)))
+      (counted_tag null_tag flow.On (farther r 1) next (record { shallow = p.shallow; few = p.few })
+      (null_begun flow.On far next (ends_there old far old next k (with_place k 1) 1 refl refl refl refl refl refl refl comes) refl))
       (λ _ _. place_counted piece before old k 1 null_tag h);
 })
 
 pub back_ends : (piece : List ℕ) (n : ℕ) (old : Seen) (k j : Counts) → HoldsNext piece old k → HasPlace (seen_at old k) → k.used < length piece → 0x71 ≡ get_or piece k.used 0
-    → HasNumber (drop k.used piece) n → n < 2 ^ 32 → (n < 0x7E0000 → ⊥) → (length old.table.entries ≤ n - 0x7E0000 → ⊥) → j ≡ with_place k 5 → Ends piece old k old j
+    → HasNumber (drop k.used piece) n → n < 2 ^ 32 → is_no_handle old.table.entries n ≡ false → j ≡ with_place k 5 → Ends piece old k old j
 unfolding Ends
-back_ends piece n old k j h p more tag is small low high ej = subst (λ j. LeadsTo piece old k old j (after_value (seen_at old j))) (sym ej) (record {
+back_ends piece n old k j h p more tag is small named_is ej = subst (λ j. LeadsTo piece old k old j (after_value (seen_at old j))) (sym ej) (record {
   size = 5;
   some = omega arith;
   used = refl;
@@ -85,7 +81,7 @@ back_ends piece n old k j h p more tag is small low high ej = subst (λ j. Leads
   to = λ gate g before next comes kept.
       let r : Seen = seen_at old k in
       reference_passes gate n (drop k.used piece) r (placed r 5) next (tally_at old.meter.at before k) (tally_at old.meter.at before (with_place k 5)) g
-      (rest_can piece old k h.holds more) (place_on old.frames) (tag_there piece k.used 0x71 tag) is small p low high refl
+      (rest_can piece old k h.holds more) (place_on old.frames) (tag_there piece k.used 0x71 tag) is small p named_is refl
       (ends_there old (placed r 5) old next k (with_place k 5) 5 refl refl refl refl refl refl refl comes)
       (λ _ _. place_counted piece before old k 5 reference_tag h);
 })
@@ -131,9 +127,9 @@ null_turn piece old k j h room tag p e =
     value_ended piece old old k j 1 (null_ends piece old k j h p (omega arith) tag e) h p (omega arith) (omega arith) refl refl e
 
 pub back_turn : (piece : List ℕ) (n : ℕ) (old : Seen) (k j : Counts) → HoldsNext piece old k → k.used + 6 ≤ length piece → 0x71 ≡ get_or piece k.used 0 → HasNumber (drop k.used piece) n
-    → n < 2 ^ 32 → (n < 0x7E0000 → ⊥) → (length old.table.entries ≤ n - 0x7E0000 → ⊥) → HasPlace (seen_at old k) → j ≡ with_place k 5 → Turns piece turn.Ended old k old j
-back_turn piece n old k j h room tag is small low high p e =
-    value_ended piece old old k j 5 (back_ends piece n old k j h p (omega arith) tag is small low high e) h p (omega arith) (omega arith) refl refl e
+    → n < 2 ^ 32 → is_no_handle old.table.entries n ≡ false → HasPlace (seen_at old k) → j ≡ with_place k 5 → Turns piece turn.Ended old k old j
+back_turn piece n old k j h room tag is small named_is p e =
+    value_ended piece old old k j 5 (back_ends piece n old k j h p (omega arith) tag is small named_is e) h p (omega arith) (omega arith) refl refl e
 
 pub string_turn : (piece rest : List ℕ) (len : ℕ) (old new : Seen) (k j : Counts) → HoldsNext piece old k → k.used + 6 ≤ length piece → 0x74 ≡ get_or piece k.used 0 → rest ≡ drop k.used piece
     → HasText rest len → HasPlace (seen_at old k) → AssignsText true old new → j ≡ with_place k (len + 3) → Turns piece turn.Ended old k new j

@@ -262,7 +262,7 @@ type_handle_taken gate n piece r new et t goes =
     let enough = t.is.within in
     four_taken n flow.On (taken.Ended 4) rest (take 4 rest) m new
     (takes_text_handle n 4 flow.On m far new
-    (right_text n (settle (moment_of far) (text_rest far far.text)) flow.On far new (type_named flow.On far new goes et) t.is_string t.low)
+    (right_text n (settle (moment_of far) (text_rest far far.text)) flow.On far new (type_named flow.On far new goes et) t.text)
     refl refl (omega arith) t.few)
     refl tt t.is.spelled refl (omega arith) gate
 
@@ -291,7 +291,7 @@ typed_can len piece rest old mid can t er le =
     subst (CanPass m) (sym er) (can_go_on piece (len + 3) old m can le there)
 
 pub typed_here : (len n : ℕ) (rest : List ℕ) (old mid : Seen) → HasType rest n old → HasType rest n (named_member old mid.header len)
-typed_here len n rest old mid y = record { tag = y.tag; is = y.is; few = y.few; low = y.low; is_string = y.is_string }
+typed_here len n rest old mid y = record { tag = y.tag; is = y.is; few = y.few; text = y.text }
 
 pub typed_goes : (len : ℕ) (found : Flow) (old mid far new : Seen) (code : ℕ) → BeginsMember code true old mid → GoesOnFields found far new → found ≡ flow.On
     → far ≡ farther mid (len + 8) → GoesOnFields flow.On (farther (at_type (named_member old mid.header len)) 4) new

@@ -1,5 +1,5 @@
 -- Handles and lengths, and where they lead.
-use Rattle.std.proofs.Common.{◌≡◌, ℕ, zero, suc, ◌-◌, ◌^◌, ◌<◌, ◌≤◌, true, false, nat_le, ◌∷◌, length, Option, Some, None, refl, sym, ◌∙◌, ap, subst, arith}
+use Rattle.std.proofs.Common.{◌≡◌, ℕ, zero, suc, ◌-◌, ◌^◌, ◌<◌, ◌≤◌, true, false, nat_le, ◌∷◌, length, Option, Some, None, refl, sym, ◌∙◌, ap, subst, arith, Bool, not, option_map}
 use Rattle.std.proofs.lemmas.Bool.Decides.{nat_tests}
 use Rattle.jser_reading.specs.Goals.{State, settle, block_goal}
 use Rattle.jser_verdict.specs.Reasons.{Reason, no_such_handle, negative_length}
@@ -14,6 +14,8 @@ use Rattle.jser_reader.specs.Steps.{after_value}
 use Rattle.jser_reader.specs.Handlers.{StopsWith, refusal, moved, Comes, TellsSurely, IsNext}
 use Rattle.jser_reader.specs.Numbers.{back_reason, after_block_length}
 use Rattle.jser_reader.proofs.EndLemmas.{next_is}
+use Rattle.jser_reader.proofs.RuleLemmas.{assigned, unassigned}
+use Rattle.jser_reader.specs.declared.refusal.Reason.{Reason as CodeReason}
 
 pub surely_refused : (reason : Reason) (told : Option Reason) (s : State) (b : Flow) (old new : Seen) → StopsWith (refusal old.meter (named reason)) old new → b ≡ flow.Stopped → told ≡ Some reason → TellsSurely told s b old new
 unfolding TellsSurely
@@ -23,19 +25,23 @@ pub surely_next : (told : Option Reason) (s : State) (b : Flow) (old new : Seen)
 unfolding TellsSurely
 surely_next told s b old new h eb et = rw eb (rw et h)
 
+pub surely_first : (told : Option Reason) (why : CodeReason) (s : State) (b : Flow) (old new : Seen) → Some why ≡ option_map named told → StopsWith (refusal old.meter why) old new → b ≡ flow.Stopped
+    → TellsSurely told s b old new
+surely_first None why s b old new e h eb = absurd (cc)
+surely_first (Some k) why s b old new e h eb =
+    let is : why ≡ named k = cc in surely_refused k (Some k) s b old new (subst (λ w. StopsWith (refusal old.meter w) old new) is h) eb refl
+
 -- the handle of a reference
 
-pub low_handle : (n : ℕ) (s : State) (b : Flow) (old new : Seen) → StopsWith (refusal old.meter (named no_such_handle)) old new → b ≡ flow.Stopped → n < 0x7E0000 → TellsSurely (back_reason old n) s b old new
-low_handle n s b old new h e l =
-    let is : is_no_handle old.table.entries n ≡ true = grind (arith, nat_tests) in surely_refused no_such_handle (back_reason old n) s b old new h e (rw is refl)
+pub wrong_handle : (n : ℕ) (there : Bool) (s : State) (b : Flow) (old new : Seen) → there ≡ not (is_no_handle old.table.entries n) → there ≡ false
+    → StopsWith (refusal old.meter (named no_such_handle)) old new → b ≡ flow.Stopped → TellsSurely (back_reason old n) s b old new
+wrong_handle n there s b old new e none h eb =
+    let is = unassigned there (is_no_handle old.table.entries n) e none in surely_refused no_such_handle (back_reason old n) s b old new h eb (rw is refl)
 
-pub high_handle : (n : ℕ) (s : State) (b : Flow) (old new : Seen) → StopsWith (refusal old.meter (named no_such_handle)) old new → b ≡ flow.Stopped → length old.table.entries ≤ n - 0x7E0000 → (n < 0x7E0000 → ⊥) → TellsSurely (back_reason old n) s b old new
-high_handle n s b old new h e l low =
-    let is : is_no_handle old.table.entries n ≡ true = grind (arith, nat_tests) in surely_refused no_such_handle (back_reason old n) s b old new h e (rw is refl)
-
-pub right_handle : (n : ℕ) (b : Flow) (old new : Seen) → Comes old new (after_value old) → b ≡ flow.On → (n < 0x7E0000 → ⊥) → (length old.table.entries ≤ n - 0x7E0000 → ⊥) → TellsSurely (back_reason old n) (after_value old) b old new
-right_handle n b old new h e low high =
-    let is : is_no_handle old.table.entries n ≡ false = grind (arith, nat_tests) in surely_next (back_reason old n) (after_value old) b old new h e (rw is refl)
+pub right_handle : (n : ℕ) (there : Bool) (b : Flow) (old new : Seen) → there ≡ not (is_no_handle old.table.entries n) → there ≡ true → Comes old new (after_value old) → b ≡ flow.On
+    → TellsSurely (back_reason old n) (after_value old) b old new
+right_handle n there b old new e is_there h eb =
+    let is = assigned there (is_no_handle old.table.entries n) e is_there in surely_next (back_reason old n) (after_value old) b old new h eb (rw is refl)
 
 -- blocks
 

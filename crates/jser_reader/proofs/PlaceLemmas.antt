@@ -1,37 +1,37 @@
 -- Counting a place.
-use Rattle.std.proofs.Common.{◌≡◌, ◌≤◌, Bool, true, false, length, Option, Some, refl, sym, ◌∙◌, ap, subst, arith}
-use Rattle.std.proofs.lemmas.Bool.Decides.{nat_tests}
+use Rattle.std.proofs.Common.{◌≡◌, Bool, true, false, Option, Some, None, option_map, refl, sym, ◌∙◌, ap, subst, arith}
 use Rattle.jser_reading.specs.Goals.{State}
 use Rattle.jser_verdict.specs.Reasons.{Reason, depth_exceeded, refs_exceeded}
 use Rattle.jser_verdict.specs.Verdicts.{told_if}
 use Rattle.jser_reader.specs.declared.machine.flow.Flow.{Flow}
+use Rattle.jser_reader.specs.declared.refusal.Reason.{Reason as CodeReason}
 use Rattle.jser_reader.specs.declared.machine.flow.Flow.TheVariants as flow
 use Rattle.jser_reader.specs.Reasons.{named}
 use Rattle.jser_reader.specs.Readers.{Seen}
-use Rattle.jser_reader.specs.Handlers.{StopsWith, refusal, counted, Tells}
-use Rattle.jser_reader.specs.Superclasses.{is_deep, is_one_too_many, with_limits, CountsPlace, CountCases}
+use Rattle.jser_reader.specs.Handlers.{StopsWith, refusal, counted, CountCases, CountsPlace, Tells}
+use Rattle.jser_reader.specs.Rules.{is_deep, is_one_too_many, with_limits}
 use Rattle.jser_reader.proofs.EndLemmas.{tells_refusal, tells_from}
+use Rattle.std.proofs.lemmas.Bool.Decides.{nat_tests}
+use Rattle.jser_reader.specs.Wholes.{HasPlace}
 
-pub too_deep : (b : Flow) (old new : Seen) → StopsWith (refusal old.meter (named depth_exceeded)) old new → b ≡ flow.Stopped → old.meter.limits.depth ≤ length old.frames → CountsPlace b old new
+pub counts_not : (b : Flow) (why : CodeReason) (old new : Seen) → Some why ≡ option_map named (with_limits old None) → StopsWith (refusal old.meter why) old new → b ≡ flow.Stopped
+    → CountsPlace b old new
 unfolding CountsPlace
-too_deep b old new h e le =
-    let deep : is_deep old ≡ true = grind (arith, nat_tests) in rw e (subst (λ d. CountCases flow.Stopped d (is_one_too_many old) old new) (sym deep) h)
+counts_not b why old new e h eb = rw eb (go (is_deep old) (is_one_too_many old) e)
+  where
+    go : (d m : Bool) → Some why ≡ option_map named (told_if d depth_exceeded (told_if m refs_exceeded None)) → CountCases flow.Stopped d m old new
+    go true m e = let is : why ≡ named depth_exceeded = cc in subst (λ w. StopsWith (refusal old.meter w) old new) is h
+    go false true e = let is : why ≡ named refs_exceeded = cc in subst (λ w. StopsWith (refusal old.meter w) old new) is h
+    go false false e = absurd (cc)
 
-pub too_many : (b : Flow) (old new : Seen) → StopsWith (refusal old.meter (named refs_exceeded)) old new → b ≡ flow.Stopped
-    → (old.meter.limits.depth ≤ length old.frames → ⊥) → old.meter.limits.refs ≤ old.refs → CountsPlace b old new
+pub counts : (b : Flow) (old new : Seen) → None ≡ option_map named (with_limits old None) → new ≡ counted old → b ≡ flow.On → CountsPlace b old new
 unfolding CountsPlace
-too_many b old new h e shallow le =
-    let deep : is_deep old ≡ false = grind (arith, nat_tests) in
-    let many : is_one_too_many old ≡ true = grind (arith, nat_tests) in
-    rw e (subst (λ d. CountCases flow.Stopped d (is_one_too_many old) old new) (sym deep) (subst (λ m. CountCases flow.Stopped false m old new) (sym many) h))
-
-pub counts : (b : Flow) (old new : Seen) → new ≡ counted old → b ≡ flow.On
-    → (old.meter.limits.depth ≤ length old.frames → ⊥) → (old.meter.limits.refs ≤ old.refs → ⊥) → CountsPlace b old new
-unfolding CountsPlace
-counts b old new h e shallow few =
-    let deep : is_deep old ≡ false = grind (arith, nat_tests) in
-    let many : is_one_too_many old ≡ false = grind (arith, nat_tests) in
-    rw e (h, deep, many)
+counts b old new e h eb = let is = go (is_deep old) (is_one_too_many old) e in rw eb (h, is.0, is.1)
+  where
+    go : (d m : Bool) → None ≡ option_map named (told_if d depth_exceeded (told_if m refs_exceeded None)) → (d ≡ false) × (m ≡ false)
+    go true m e = absurd (cc)
+    go false true e = absurd (cc)
+    go false false e = (refl, refl)
 
 -- the reasons of a place's tag begin with these
 
@@ -51,3 +51,14 @@ after_count flow.Stopped found others s old mid new h e k = absurd (cc)
 after_count flow.On found others s old mid new h e k =
     let same : others ≡ with_limits old others = sym (ap (λ d. told_if d depth_exceeded (told_if (is_one_too_many old) refs_exceeded others)) h.1 ∙ ap (λ m. told_if m refs_exceeded others) h.2) in
     subst (λ t. Tells t s found old new) same (tells_from others s s found old mid new k (ap (λ r. r.meter) h.0) (ap (λ r. r.table.max) h.0) refl)
+
+pub is_counted : (b : Flow) (old mid : Seen) → CountsPlace b old mid → b ≡ flow.On → mid ≡ counted old
+unfolding CountsPlace
+is_counted flow.On old mid h e = h.0
+is_counted flow.Stopped old mid h e = absurd (cc)
+
+pub counts_here : (old : Seen) → HasPlace old → CountsPlace flow.On old (counted old)
+unfolding CountsPlace
+counts_here old p =
+    let shallow = p.shallow in
+    let few = p.few in (refl, grind (arith, nat_tests), grind (arith, nat_tests))

@@ -1,34 +1,34 @@
 -- The tag of a superclass place.
-use Rattle.std.proofs.Common.{◌≡◌, ℕ, suc, ◌-◌, ◌<◌, ◌≤◌, ◌⊎◌, inl, inr, Bool, true, false, not, ◌&&◌, nat_le, List, [], ◌∷◌, length, slice_get, Option, Some, None, is_some, IsTrue, refl, sym, ◌∙◌, ap, subst, arith}
+use Rattle.std.proofs.Common.{◌≡◌, ℕ, suc, ◌-◌, ◌<◌, ◌⊎◌, inl, inr, Bool, true, false, not, ◌&&◌, List, [], ◌∷◌, length, slice_get, Option, Some, None, option_map, is_some, IsTrue, refl, sym, ◌∙◌, ap, subst, arith}
 use Rattle.std.proofs.lemmas.Bool.Decides.{nat_tests}
 use Rattle.std.specs.Option.{ForSome}
-use Rattle.jser_table.specs.declared.class.Class.TheVariants as class
 use Rattle.jser_table.specs.Chains.{all_serial, chain_in}
-use Rattle.jser_table.specs.Entries.{TableEntry, text_entry, other_entry, pending_entry, closed_entry, is_pending, is_closed, chain_at, chain_of}
-use Rattle.jser_table.specs.Tables.{IsClass}
+use Rattle.jser_table.specs.Entries.{TableEntry, closed_entry, is_closed, chain_at, chain_of}
+use Rattle.jser_table.specs.Tables.{TableView}
 use Rattle.jser_reading.specs.Labels.{superclass_place_at}
 use Rattle.jser_reading.specs.TokenBytes.{tag_byte}
 use Rattle.jser_reading.specs.TokensFromBytes.{tag_from}
 use Rattle.jser_reading.specs.Roles.{ChainOwner}
 use Rattle.jser_reading.specs.Goals.{State}
-use Rattle.jser_verdict.specs.Reasons.{Reason, bad_tag, no_such_handle, wrong_kind, open_descriptor, not_serializable, handle_space}
+use Rattle.jser_verdict.specs.Reasons.{Reason, bad_tag, not_serializable, handle_space}
 use Rattle.jser_verdict.specs.TagRows.{is_known_tag}
-use Rattle.jser_verdict.specs.HandleRows.{is_no_handle, entry_named, is_no_descriptor}
+use Rattle.jser_verdict.specs.HandleRows.{entry_named}
 use Rattle.jser_verdict.specs.ClassRows.{is_unserial_superclass}
 use Rattle.jser_verdict.specs.Verdicts.{told_if, other_tag_reason}
 use Rattle.jser_reader.specs.declared.machine.flow.Flow.{Flow}
 use Rattle.jser_reader.specs.declared.machine.flow.Flow.TheVariants as flow
 use Rattle.jser_reader.specs.declared.phase.Phase.TheVariants as phase
+use Rattle.jser_reader.specs.declared.refusal.Reason.{Reason as CodeReason}
 use Rattle.jser_reader.specs.declared.tag.ValueTag.{ValueTag}
 use Rattle.jser_reader.specs.declared.tag.ValueTag.TheVariants as value
 use Rattle.jser_reader.specs.Tags.{view_tag, block_byte, IsTagOf}
 use Rattle.jser_reader.specs.Reasons.{named}
 use Rattle.jser_reader.specs.Readers.{Seen, Ready}
-use Rattle.jser_reader.specs.Handlers.{StopsWith, refusal, Tells, IsNext, counted, is_full, plain_gate, label_at, opens_class, opens_proxy}
+use Rattle.jser_reader.specs.Handlers.{StopsWith, refusal, Tells, IsNext, counted, is_full, plain_gate, label_at, opens_class, opens_proxy, CountsPlace}
 use Rattle.jser_reader.specs.Closing.{closed_state, closing_reason}
 use Rattle.jser_reader.proofs.EndLemmas.{next_is, tells_next, tells_refusal}
-use Rattle.jser_reader.proofs.ClassLemmas.{within, beyond}
-use Rattle.jser_reader.proofs.PlaceLemmas.{not_counted, after_count}
+use Rattle.jser_reader.proofs.RuleLemmas.{closed_first, is_closed_at, is_named, tells_first}
+use Rattle.jser_reader.proofs.PlaceLemmas.{not_counted, after_count, is_counted}
 use Rattle.jser_table.specs.declared.layer.Layer.{Layer}
 use Rattle.jser_table.specs.Chains.{is_externalizable}
 use Rattle.jser_reader.specs.declared.frame.Frame.{Frame}
@@ -38,7 +38,8 @@ use Rattle.jser_reader.specs.declared.frame.Role.TheVariants as role
 use Rattle.jser_reader.specs.Stacks.{tail_of}
 use Rattle.jser_reader.specs.Fitting.{IsDescriptor, HasDescriptor}
 use Rattle.jser_reader.specs.Frames.{head_layer, chain_owner}
-use Rattle.jser_reader.specs.Superclasses.{strict_in, super_reason, super_handle_reason, after_super_tag, with_limits, CountsPlace}
+use Rattle.jser_reader.specs.Superclasses.{strict_in, super_reason, super_handle_reason, after_super_tag}
+use Rattle.jser_reader.specs.Rules.{with_closed, with_limits, IsClosed}
 
 pub strict_none : (L : List Layer) (frames : List Frame) → frames ≡ [] → false ≡ strict_in L frames
 strict_none L frames e = sym (ap (strict_in L) e)
@@ -122,11 +123,6 @@ plain_fails b found s old new h eb ef = fails handle_space None (super_reason ol
 pub proxy_fails : (b found : Flow) (s : State) (old new : Seen) → CountsPlace b old new → b ≡ flow.Stopped → found ≡ flow.Stopped → Tells (super_reason old 0x7D) s found old new
 proxy_fails b found s old new h eb ef = fails handle_space (told_if (is_full old) handle_space None) (super_reason old 0x7D) b found s old new (proxy_reason old) h eb ef
 
-is_counted : (b : Flow) (old mid : Seen) → CountsPlace b old mid → b ≡ flow.On → mid ≡ counted old
-unfolding CountsPlace
-is_counted flow.On old mid h e = h.0
-is_counted flow.Stopped old mid h e = absurd (cc)
-
 pub null_closes : (b found : Flow) (old mid new : Seen) → CountsPlace b old mid → b ≡ flow.On → (HasDescriptor mid.frames → Tells (closing_reason mid) (closed_state mid None) found mid new)
     → HasDescriptor old.frames → Tells (super_reason old 0x70) (after_super_tag old (tag_from 0x70)) found old new
 unfolding tag_from
@@ -209,64 +205,47 @@ super_value_tag t b found old new e h d = rw e (h d)
 
 -- handles
 
-abbrev entry_reason : Seen → Option TableEntry → Option Reason
-entry_reason r e =
-    told_if (is_no_descriptor e) wrong_kind
-    (told_if (is_pending e) open_descriptor (told_if (is_unserial_superclass (strict_in r.layers r.frames) e) not_serializable (closing_reason r)))
+-- the reasons of a closed class
+abbrev rest_reason : Seen → Option TableEntry → Option Reason
+rest_reason r e = told_if (is_unserial_superclass (strict_in r.layers r.frames) e) not_serializable (closing_reason r)
 
-at_entry : (r : Seen) (n : ℕ) (e : TableEntry) → 0x7E0000 ≤ n → slice_get r.table.entries (n - 0x7E0000) ≡ Some e → super_handle_reason r n ≡ entry_reason r (Some e)
-at_entry r n e low h =
-    let l = within r.table.entries (n - 0x7E0000) e h in
-    let is : is_no_handle r.table.entries n ≡ false = grind (arith, nat_tests) in
-    let named_is : entry_named r.table.entries n ≡ Some e = let t : nat_le 0x7E0000 n ≡ true = grind (arith, nat_tests) in rw t h in
-    rw is (ap (entry_reason r) named_is)
+at_closed : (r : Seen) (n chain : ℕ) → IsClosed r.table n chain → super_handle_reason r n ≡ rest_reason r (Some (closed_entry (chain_in r.table.chains chain)))
+at_closed r n chain c =
+    is_closed_at r.table n chain (rest_reason r (entry_named r.table.entries n)) c
+    ∙ ap (rest_reason r) (is_named r.table.entries n (closed_entry (chain_in r.table.chains chain)) c.low c.is_class.0).1
 
-pub low_super : (n : ℕ) (s : State) (found : Flow) (old new : Seen) → StopsWith (refusal old.meter (named no_such_handle)) old new → found ≡ flow.Stopped → n < 0x7E0000 → Tells (super_handle_reason old n) s found old new
-low_super n s found old new h ef l =
-    let is : is_no_handle old.table.entries n ≡ true = grind (arith, nat_tests) in tells_refusal no_such_handle (super_handle_reason old n) s found old new h ef (rw is refl)
+pub wrong_super : (n : ℕ) (why : CodeReason) (s : State) (found : Flow) (old new : Seen) → Some why ≡ option_map named (with_closed old.table n None)
+    → StopsWith (refusal old.meter why) old new → found ≡ flow.Stopped → Tells (super_handle_reason old n) s found old new
+wrong_super n why s found old new e h ef =
+    tells_first (with_closed old.table n None) (super_handle_reason old n) why s found old new e (closed_first old.table n (rest_reason old (entry_named old.table.entries n))) h ef
 
-pub no_such_super : (n : ℕ) (s : State) (found : Flow) (old new : Seen) → StopsWith (refusal old.meter (named no_such_handle)) old new → found ≡ flow.Stopped
-    → IsClass old.table.chains (slice_get old.table.entries (n - 0x7E0000)) class.NotThere → (n < 0x7E0000 → ⊥) → Tells (super_handle_reason old n) s found old new
-no_such_super n s found old new h ef none low =
-    let l = beyond old.table.entries (n - 0x7E0000) none in
-    let is : is_no_handle old.table.entries n ≡ true = grind (arith, nat_tests) in tells_refusal no_such_handle (super_handle_reason old n) s found old new h ef (rw is refl)
-
-pub no_class_super : (n : ℕ) (s : State) (found : Flow) (old new : Seen) → StopsWith (refusal old.meter (named wrong_kind)) old new → found ≡ flow.Stopped
-    → IsClass old.table.chains (slice_get old.table.entries (n - 0x7E0000)) class.NoClass → (n < 0x7E0000 → ⊥) → Tells (super_handle_reason old n) s found old new
-no_class_super n s found old new h ef (inl t) low = tells_refusal wrong_kind (super_handle_reason old n) s found old new h ef (at_entry old n text_entry (omega arith) t)
-no_class_super n s found old new h ef (inr t) low = tells_refusal wrong_kind (super_handle_reason old n) s found old new h ef (at_entry old n other_entry (omega arith) t)
-
-pub open_super : (n : ℕ) (s : State) (found : Flow) (old new : Seen) → StopsWith (refusal old.meter (named open_descriptor)) old new → found ≡ flow.Stopped
-    → IsClass old.table.chains (slice_get old.table.entries (n - 0x7E0000)) class.Open → (n < 0x7E0000 → ⊥) → Tells (super_handle_reason old n) s found old new
-open_super n s found old new h ef t low = tells_refusal open_descriptor (super_handle_reason old n) s found old new h ef (at_entry old n pending_entry (omega arith) t)
-
-by_strict : (r : Seen) (chain : List Layer) → strict_in r.layers r.frames ≡ true → all_serial chain ≡ false → entry_reason r (Some (closed_entry chain)) ≡ Some not_serializable
+by_strict : (r : Seen) (chain : List Layer) → strict_in r.layers r.frames ≡ true → all_serial chain ≡ false → rest_reason r (Some (closed_entry chain)) ≡ Some not_serializable
 by_strict r chain strict unserial = rw strict (rw unserial refl)
 
-by_loose : (r : Seen) (chain : List Layer) (strict serial : Bool) → strict_in r.layers r.frames ≡ strict → all_serial chain ≡ serial → (strict && not serial) ≡ false → entry_reason r (Some (closed_entry chain)) ≡ closing_reason r
+by_loose : (r : Seen) (chain : List Layer) (strict serial : Bool) → strict_in r.layers r.frames ≡ strict → all_serial chain ≡ serial → (strict && not serial) ≡ false → rest_reason r (Some (closed_entry chain)) ≡ closing_reason r
 by_loose r chain false serial es ea e = rw es refl
 by_loose r chain true true es ea e = rw es (rw ea refl)
 by_loose r chain true false es ea e = absurd (cc)
 
 pub unserial_super : (n chain : ℕ) (s : State) (found : Flow) (old new : Seen) → StopsWith (refusal old.meter (named not_serializable)) old new → found ≡ flow.Stopped
-    → IsClass old.table.chains (slice_get old.table.entries (n - 0x7E0000)) (class.Closed chain) → (n < 0x7E0000 → ⊥)
+    → IsClosed old.table n chain
     → strict_in old.layers old.frames ≡ true → all_serial (chain_at old.table.entries (n - 0x7E0000)) ≡ false → Tells (super_handle_reason old n) s found old new
-unserial_super n chain s found old new h ef t low strict unserial =
-    let e = at_entry old n (closed_entry (chain_in old.table.chains chain)) (omega arith) t.0 in
-    let chain_is : all_serial (chain_in old.table.chains chain) ≡ false = sym (ap (λ x. all_serial (chain_of x)) t.0) ∙ unserial in
+unserial_super n chain s found old new h ef c strict unserial =
+    let e = at_closed old n chain c in
+    let chain_is : all_serial (chain_in old.table.chains chain) ≡ false = sym (ap (λ x. all_serial (chain_of x)) c.is_class.0) ∙ unserial in
     tells_refusal not_serializable (super_handle_reason old n) s found old new h ef (e ∙ by_strict old (chain_in old.table.chains chain) strict chain_is)
 
 pub right_super : (n chain : ℕ) (found : Flow) (old new : Seen) → (HasDescriptor old.frames → Tells (closing_reason old) (closed_state old (Some (n - 0x7E0000))) found old new)
-    → IsClass old.table.chains (slice_get old.table.entries (n - 0x7E0000)) (class.Closed chain) → (n < 0x7E0000 → ⊥)
+    → IsClosed old.table n chain
     → (strict_in old.layers old.frames && not (all_serial (chain_at old.table.entries (n - 0x7E0000)))) ≡ false
     → HasDescriptor old.frames → Tells (super_handle_reason old n) (closed_state old (Some (n - 0x7E0000))) found old new
-right_super n chain found old new h t low e d =
+right_super n chain found old new h c e d =
     let ch = chain_in old.table.chains chain in
-    let at = at_entry old n (closed_entry ch) (omega arith) t.0 in
-    let same : chain_at old.table.entries (n - 0x7E0000) ≡ ch = ap chain_of t.0 in
+    let at = at_closed old n chain c in
+    let same : chain_at old.table.entries (n - 0x7E0000) ≡ ch = ap chain_of c.is_class.0 in
     let loose : (strict_in old.layers old.frames && not (all_serial ch)) ≡ false = sym (ap (λ c. strict_in old.layers old.frames && not (all_serial c)) same) ∙ e in
     subst (λ k. Tells k (closed_state old (Some (n - 0x7E0000))) found old new)
     (sym (at ∙ by_loose old ch (strict_in old.layers old.frames) (all_serial ch) refl refl loose)) (h d)
 
-pub is_read : (T : List TableEntry) (C : List (List Layer)) (n chain : ℕ) → IsClass C (slice_get T n) (class.Closed chain) → ForSome (Some n) (λ p. IsTrue (is_closed (slice_get T p)))
-is_read T C n chain t = λ k e. subst (λ p. IsTrue (is_closed (slice_get T p))) (let same : n ≡ k = cc in same) (ap is_closed t.0)
+pub is_read : (t : TableView) (n chain : ℕ) → IsClosed t n chain → ForSome (Some (n - 0x7E0000)) (λ p. IsTrue (is_closed (slice_get t.entries p)))
+is_read t n chain c = λ k e. subst (λ p. IsTrue (is_closed (slice_get t.entries p))) (let same : n - 0x7E0000 ≡ k = cc in same) (ap is_closed c.is_class.0)

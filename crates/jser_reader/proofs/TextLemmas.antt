@@ -1,14 +1,12 @@
 -- The tag and the handle of a text place, and where they lead.
-use Rattle.std.proofs.Common.{◌≡◌, ℕ, ◌-◌, ◌<◌, ◌≤◌, ◌⊎◌, inl, inr, Bool, true, false, nat_le, List, slice_get, Option, Some, None, is_some, refl, sym, ◌∙◌, ap, subst, arith}
+use Rattle.std.proofs.Common.{◌≡◌, ℕ, ◌-◌, ◌<◌, ◌⊎◌, inl, inr, Bool, true, false, List, Some, None, refl, sym, ◌∙◌, ap, subst, arith, option_map}
 use Rattle.std.proofs.lemmas.Bool.Decides.{nat_tests}
-use Rattle.jser_table.specs.Entries.{TableEntry, text_entry, other_entry, pending_entry, closed_entry, is_text}
 use Rattle.jser_reading.specs.Labels.{text_place_at}
 use Rattle.jser_reading.specs.TokenBytes.{tag_byte}
 use Rattle.jser_reading.specs.TokensFromBytes.{tag_from}
 use Rattle.jser_reading.specs.Goals.{State, settle}
-use Rattle.jser_verdict.specs.Reasons.{Reason, bad_tag, no_such_handle, wrong_kind, handle_space}
+use Rattle.jser_verdict.specs.Reasons.{bad_tag, handle_space}
 use Rattle.jser_verdict.specs.TagRows.{is_known_tag}
-use Rattle.jser_verdict.specs.HandleRows.{is_no_handle, entry_named, is_no_text}
 use Rattle.jser_verdict.specs.Gates.{Gate}
 use Rattle.jser_verdict.specs.Verdicts.{told_if, class_name_reason, interface_reason}
 use Rattle.jser_reader.specs.declared.machine.flow.Flow.{Flow}
@@ -27,8 +25,10 @@ use Rattle.jser_reader.specs.Handlers.{StopsWith, refusal, Comes, Tells, TellsSu
 use Rattle.jser_reader.specs.Descriptors.{GoesOnFields}
 use Rattle.jser_reader.specs.TextStates.{text_tag_reason, handle_reason, after_text_tag, text_reason_of, text_reason, named_state, text_state_of, after_text, EndsText}
 use Rattle.jser_reader.proofs.EndLemmas.{next_is, tells_next, tells_refusal}
-use Rattle.jser_reader.proofs.NumberLemmas.{surely_refused, surely_next}
-use Rattle.jser_reader.proofs.ClassLemmas.{within, beyond}
+use Rattle.jser_reader.proofs.NumberLemmas.{surely_next, surely_first}
+use Rattle.jser_reader.proofs.RuleLemmas.{no_reason}
+use Rattle.jser_reader.specs.declared.refusal.Reason.{Reason as CodeReason}
+use Rattle.jser_reader.specs.Rules.{with_text}
 
 -- ---- tags that are refused
 
@@ -150,61 +150,15 @@ type_named found old new h e form inside =
 
 -- ---- handles
 
--- the reason by the entry, where the handle is one
-abbrev entry_reason : Option TableEntry → Option Reason
-entry_reason e = told_if (is_no_text e) wrong_kind None
-
-at_entry : (r : Seen) (n : ℕ) (e : TableEntry) → 0x7E0000 ≤ n → slice_get r.table.entries (n - 0x7E0000) ≡ Some e → handle_reason r n ≡ entry_reason (Some e)
-at_entry r n e low h =
-    let l = within r.table.entries (n - 0x7E0000) e h in
-    let is : is_no_handle r.table.entries n ≡ false = grind (arith, nat_tests) in
-    let named_is : entry_named r.table.entries n ≡ Some e = let t : nat_le 0x7E0000 n ≡ true = grind (arith, nat_tests) in rw t h in
-    rw is (ap entry_reason named_is)
-
-pub low_text : (n : ℕ) (s : State) (found : Flow) (old new : Seen) → StopsWith (refusal old.meter (named no_such_handle)) old new → found ≡ flow.Stopped → n < 0x7E0000
-    → TellsSurely (handle_reason old n) s found old new
-low_text n s found old new h ef l =
-    let is : is_no_handle old.table.entries n ≡ true = grind (arith, nat_tests) in
-    surely_refused no_such_handle (handle_reason old n) s found old new h ef (rw is refl)
-
-pub no_such_text : (n : ℕ) (s : State) (found : Flow) (old new : Seen) → StopsWith (refusal old.meter (named no_such_handle)) old new → found ≡ flow.Stopped
-    → false ≡ is_some (slice_get old.table.entries (n - 0x7E0000)) → (n < 0x7E0000 → ⊥)
-    → TellsSurely (handle_reason old n) s found old new
-no_such_text n s found old new h ef none low = go (slice_get old.table.entries (n - 0x7E0000)) refl none
-  where
-    go : (e : Option TableEntry) → slice_get old.table.entries (n - 0x7E0000) ≡ e → false ≡ is_some e → TellsSurely (handle_reason old n) s found old new
-    go (Some e) k none = absurd (cc)
-    go None k none =
-        let l = beyond old.table.entries (n - 0x7E0000) k in
-        let is : is_no_handle old.table.entries n ≡ true = grind (arith, nat_tests) in
-        surely_refused no_such_handle (handle_reason old n) s found old new h ef (rw is refl)
-
-pub wrong_text : (n : ℕ) (s : State) (found : Flow) (old new : Seen) → StopsWith (refusal old.meter (named wrong_kind)) old new → found ≡ flow.Stopped
-    → true ≡ is_some (slice_get old.table.entries (n - 0x7E0000)) → false ≡ is_text (slice_get old.table.entries (n - 0x7E0000)) → (n < 0x7E0000 → ⊥)
-    → TellsSurely (handle_reason old n) s found old new
-wrong_text n s found old new h ef some other low = go (slice_get old.table.entries (n - 0x7E0000)) refl some other
-  where
-    wrong : (e : TableEntry) → false ≡ is_text (Some e) → entry_reason (Some e) ≡ Some wrong_kind
-    wrong text_entry k = absurd (cc)
-    wrong other_entry k = refl
-    wrong pending_entry k = refl
-    wrong (closed_entry chain) k = refl
-
-    go : (e : Option TableEntry) → slice_get old.table.entries (n - 0x7E0000) ≡ e → true ≡ is_some e → false ≡ is_text e → TellsSurely (handle_reason old n) s found old new
-    go None k some other = absurd (cc)
-    go (Some e) k some other = surely_refused wrong_kind (handle_reason old n) s found old new h ef (at_entry old n e (omega arith) k ∙ wrong e other)
+pub wrong_text : (n : ℕ) (why : CodeReason) (s : State) (found : Flow) (old new : Seen) → Some why ≡ option_map named (with_text old.table n) → StopsWith (refusal old.meter why) old new
+    → found ≡ flow.Stopped → TellsSurely (handle_reason old n) s found old new
+wrong_text n why s found old new e h ef = surely_first (with_text old.table n) why s found old new e h ef
 
 pub right_text : (n : ℕ) (s : State) (found : Flow) (old new : Seen) → (IsForm old.text true → IsInside old.text old.frames → TellsSurely None s found old new)
-    → true ≡ is_text (slice_get old.table.entries (n - 0x7E0000)) → (n < 0x7E0000 → ⊥) → IsForm old.text true → IsInside old.text old.frames
+    → None ≡ option_map named (with_text old.table n) → IsForm old.text true → IsInside old.text old.frames
     → TellsSurely (handle_reason old n) s found old new
-right_text n s found old new h is low form inside = go (slice_get old.table.entries (n - 0x7E0000)) refl is
-  where
-    go : (e : Option TableEntry) → slice_get old.table.entries (n - 0x7E0000) ≡ e → true ≡ is_text e → TellsSurely (handle_reason old n) s found old new
-    go None k is = absurd (cc)
-    go (Some text_entry) k is = subst (λ t. TellsSurely t s found old new) (sym (at_entry old n text_entry (omega arith) k)) (h form inside)
-    go (Some other_entry) k is = absurd (cc)
-    go (Some pending_entry) k is = absurd (cc)
-    go (Some (closed_entry chain)) k is = absurd (cc)
+right_text n s found old new h right form inside =
+    subst (λ t. TellsSurely t s found old new) (sym (no_reason (with_text old.table n) right)) (h form inside)
 
 -- ---- the end of a text, by what it is read for
 

@@ -1,10 +1,9 @@
 -- The tag of a value, and where it leads.
-use Rattle.std.proofs.Common.{◌≡◌, ℕ, suc, ◌≤◌, Bool, true, false, nat_lt, nat_le, length, Option, Some, None, refl, ◌∙◌, ap, subst, arith}
-use Rattle.std.proofs.lemmas.Bool.Decides.{nat_tests}
+use Rattle.std.proofs.Common.{◌≡◌, ℕ, Bool, true, false, Some, None, refl, ◌∙◌, ap, subst}
 use Rattle.jser_table.specs.Entries.{TableEntry, text_entry}
 use Rattle.jser_reading.specs.Labels.{Tag, null_tag, reference_tag, class_desc_tag, object_tag, string_tag, array_tag, class_tag, long_string_tag, proxy_desc_tag, enum_tag}
 use Rattle.jser_reading.specs.Goals.{State}
-use Rattle.jser_verdict.specs.Reasons.{Reason, handle_space, depth_exceeded, refs_exceeded}
+use Rattle.jser_verdict.specs.Reasons.{handle_space}
 use Rattle.jser_verdict.specs.Verdicts.{told_if}
 use Rattle.jser_reader.specs.declared.machine.flow.Flow.{Flow}
 use Rattle.jser_reader.specs.declared.machine.flow.Flow.TheVariants as flow
@@ -14,11 +13,12 @@ use Rattle.jser_reader.specs.declared.frame.Role.TheVariants as role
 use Rattle.jser_reader.specs.declared.phase.Phase.TheVariants as phase
 use Rattle.jser_reader.specs.declared.phase.TextFor.{TextFor}
 use Rattle.jser_reader.specs.declared.phase.TextFor.TheVariants as text
-use Rattle.jser_reader.specs.Reasons.{named}
 use Rattle.jser_reader.specs.Readers.{Seen, in_role, length_phase, Ready, IsForm, IsInside}
 use Rattle.jser_reader.specs.Steps.{after_value}
-use Rattle.jser_reader.specs.Handlers.{StopsWith, refusal, moved, Comes, Tells, TellCases, IsNext, Assigns, AssignCases, is_full, handle_reason, begun, place_reason, counted, after_tag, opens_text, opens_class, opens_proxy}
+use Rattle.jser_reader.specs.Handlers.{moved, Comes, Tells, TellCases, IsNext, Assigns, AssignCases, is_full, handle_reason, begun, place_reason, counted, after_tag, opens_text, opens_class, opens_proxy, CountsPlace}
 use Rattle.jser_reader.proofs.EndLemmas.{next_is, tells_next}
+use Rattle.jser_reader.specs.Wholes.{HasPlace}
+use Rattle.jser_reader.proofs.PlaceLemmas.{not_counted, after_count, is_counted, counts_here}
 
 -- nothing is refused and the state comes
 goes : (s : State) (b : Flow) (old new : Seen) → Comes old new s → b ≡ flow.On → Tells None s b old new
@@ -129,30 +129,16 @@ new_class r b old mid new n e eh em ef ey et er =
 
 -- the tag of a place
 
-pub too_deep : (tag : Tag) (s : State) (b : Flow) (old new : Seen) → StopsWith (refusal old.meter (named depth_exceeded)) old new → b ≡ flow.Stopped
-    → old.meter.limits.depth ≤ length old.frames → Tells (place_reason old tag) s b old new
-unfolding Tells
-too_deep tag s b old new h e le =
-    let deep : nat_lt old.meter.limits.depth (suc (length old.frames)) ≡ true = grind (arith, nat_tests) in rw e (rw deep h)
+pub not_placed : (tag : Tag) (s : State) (b found : Flow) (old new : Seen) → CountsPlace b old new → b ≡ flow.Stopped → found ≡ flow.Stopped → Tells (place_reason old tag) s found old new
+not_placed tag s b found old new h eb ef = not_counted b found (handle_reason old tag) s old new h eb ef
 
-pub too_many : (tag : Tag) (s : State) (b : Flow) (old mid new : Seen) → StopsWith (refusal mid.meter (named refs_exceeded)) mid new → b ≡ flow.Stopped → mid.meter ≡ old.meter
-    → (old.meter.limits.depth ≤ length old.frames → ⊥) → old.meter.limits.refs ≤ old.refs → Tells (place_reason old tag) s b old new
-unfolding Tells
-too_many tag s b old mid new h e em shallow le =
-    let deep : nat_lt old.meter.limits.depth (suc (length old.frames)) ≡ false = grind (arith, nat_tests) in
-    let many : nat_le old.meter.limits.refs old.refs ≡ true = grind (arith, nat_tests) in
-    rw e (rw deep (rw many (record { phase = h.phase; stop = h.stop ∙ ap (λ m. refusal m (named refs_exceeded)) em })))
+pub placed_tag : (tag : Tag) (b found : Flow) (old mid new : Seen) → CountsPlace b old mid → b ≡ flow.On → Tells (handle_reason mid tag) (begun mid tag) found mid new
+    → Tells (place_reason old tag) (after_tag old tag) found old new
+unfolding after_tag
+placed_tag tag b found old mid new h eb k =
+    after_count b found (handle_reason old tag) (after_tag old tag) old mid new h eb (subst (λ r. Tells (handle_reason r tag) (begun r tag) found mid new) (is_counted b old mid h eb) k)
 
-pub counted_tag : (tag : Tag) (b : Flow) (old mid new : Seen) → Tells (handle_reason mid tag) (begun mid tag) b mid new → mid ≡ counted old
-    → (old.meter.limits.depth ≤ length old.frames → ⊥) → (old.meter.limits.refs ≤ old.refs → ⊥) → Tells (place_reason old tag) (after_tag old tag) b old new
-unfolding Tells after_tag
-counted_tag tag b old mid new h em shallow few =
-    let deep : nat_lt old.meter.limits.depth (suc (length old.frames)) ≡ false = grind (arith, nat_tests) in
-    let many : nat_le old.meter.limits.refs old.refs ≡ false = grind (arith, nat_tests) in
-    rw deep (rw many (by_case (handle_reason old tag) b (subst (λ r. TellCases (handle_reason r tag) (begun r tag) b r new) em h)))
-  where
-    by_case : (told : Option Reason) (b : Flow) → TellCases told (begun (counted old) tag) b (counted old) new → TellCases told (begun (counted old) tag) b old new
-    by_case None flow.On k = record { ready = k.ready; meter = k.meter; max = k.max }
-    by_case None flow.Stopped k = record { phase = k.phase; stop = k.stop }
-    by_case (Some r) flow.On k = k
-    by_case (Some r) flow.Stopped k = record { phase = k.phase; stop = k.stop }
+-- where a place may begin
+pub counted_tag : (tag : Tag) (b : Flow) (old new : Seen) → HasPlace old → Tells (handle_reason (counted old) tag) (begun (counted old) tag) b (counted old) new
+    → Tells (place_reason old tag) (after_tag old tag) b old new
+counted_tag tag b old new p k = placed_tag tag flow.On b old (counted old) new (counts_here old p) refl k

@@ -1,5 +1,5 @@
 -- A value that is taken in one step: the machine that is after its tag is named here alone, and no code makes it.
-use Rattle.std.proofs.Common.{◌≡◌, ℕ, zero, suc, ◌+◌, ◌-◌, ◌^◌, ◌<◌, ◌≤◌, ◌↔◌, Bool, true, false, nat_lt, ◌&&◌, IsTrue, List, [], ◌∷◌, ◌++◌, length, get_or, take, drop, Some, refl, sym, ◌∙◌, ap, ap₂, subst, arith}
+use Rattle.std.proofs.Common.{◌≡◌, ℕ, zero, suc, ◌+◌, ◌-◌, ◌^◌, ◌<◌, ◌≤◌, ◌↔◌, Bool, true, false, nat_lt, ◌&&◌, IsTrue, List, [], ◌∷◌, ◌++◌, length, get_or, take, drop, Some, refl, sym, ◌∙◌, ap, ap₂, subst, arith, not}
 use Rattle.std.specs.List.{list_all}
 use Rattle.std.proofs.lemmas.Bool.{lt-leb}
 use Rattle.std.proofs.lemmas.List.{length-drop, length-take-le, take-append-drop}
@@ -46,6 +46,7 @@ use Rattle.jser_reader.proofs.TextLemmas.{value_ends}
 use Rattle.jser_reader.proofs.TextSteps.{short_text_taken}
 use Rattle.jser_reader.proofs.ReaderLemmas.{take_whole}
 use Rattle.jser_reader.proofs.PassLemmas.{quiet_stopped, joined_takes, then_passes, then_halts, passes_end, passes_stop, quiet_end, quiet_takes}
+use Rattle.jser_verdict.specs.HandleRows.{is_no_handle}
 
 -- ---- the tag of a value, at any place
 
@@ -171,19 +172,16 @@ begun_reference r = record {
 pub reference_begins : (r : Seen) → HasPlace r
     → Tells (place_reason (farther r 1) reference_tag) (after_tag (farther r 1) reference_tag) flow.On (farther r 1) (begun_reference r)
 reference_begins r h =
-    let deep = h.shallow in
-    let few = h.few in
-    counted_tag reference_tag flow.On (farther r 1) (counted (farther r 1)) (begun_reference r)
+    counted_tag reference_tag flow.On (farther r 1) (begun_reference r) (record { shallow = h.shallow; few = h.few })
     (back_begun flow.On (counted (farther r 1)) (begun_reference r)
     (record { phase_is = refl; frames = refl; layers = refl; table = refl; refs = refl; owner_is = refl; chain_is = refl; header_is = refl; text_is = refl; left = refl; meter = refl })
     refl)
-    refl (λ over. absurd (omega arith)) (λ over. absurd (omega arith))
 
 pub reference_passes : (gate : Gate) (n : ℕ) (piece : List ℕ) (old far new : Seen) (before after : Tally) → IsGate gate → CanPass old piece → IsPlace old.phase
-    → 0x71 ≡ get_or piece 0 0 → HasNumber piece n → n < 2 ^ 32 → HasPlace old → (n < 0x7E0000 → ⊥) → (length old.table.entries ≤ n - 0x7E0000 → ⊥)
+    → 0x71 ≡ get_or piece 0 0 → HasNumber piece n → n < 2 ^ 32 → HasPlace old → is_no_handle old.table.entries n ≡ false
     → far ≡ placed old 5 → Comes far new (after_value far) → CountsNext old 0x71 before after
     → Passes gate piece (Some 5) old before new after
-reference_passes gate n piece old far new before after g can i first h small p low high ef end count =
+reference_passes gate n piece old far new before after g can i first h small p named_is ef end count =
     let comes : Comes (placed old 5) new (after_value (placed old 5)) = subst (λ r. Comes r new (after_value r)) ef end in
     let enough = h.within in
     let m : Seen = begun_reference old in
@@ -196,7 +194,7 @@ reference_passes gate n piece old far new before after g can i first h small p l
     let handle : Passes gate rest (Some 4) m after new after =
     quiet_end gate 4 (taken.Ended 4) rest m new after
     (four_taken n flow.On (taken.Ended 4) rest (take 4 rest) m new
-    (takes_back_handle n 4 flow.On m (farther m 4) new (right_handle n flow.On (farther m 4) new ends refl low high) refl refl (omega arith) small)
+    (takes_back_handle n 4 flow.On m (farther m 4) new (right_handle n true flow.On (farther m 4) new (sym (ap not named_is)) refl ends refl) refl refl (omega arith) small)
     refl tt h.spelled refl (omega arith) gate)
     refl tt (rest_can piece old m can (omega arith) refl refl) in
     then_passes gate piece rest 1 4 old m new before after after tag handle refl
@@ -243,10 +241,7 @@ owner_counted owner.ClassObject r =
 pub owner_begins : (o : Owner) (r : Seen) → HasPlace r
     → Tells (place_reason (farther r 1) (view_tag (tag_of_owner o))) (after_tag (farther r 1) (view_tag (tag_of_owner o))) flow.On (farther r 1) (begun_owner o r)
 owner_begins o r h =
-    let deep = h.shallow in
-    let few = h.few in
-    counted_tag (view_tag (tag_of_owner o)) flow.On (farther r 1) (counted (farther r 1)) (begun_owner o r) (owner_counted o r) refl
-    (λ over. absurd (omega arith)) (λ over. absurd (omega arith))
+    counted_tag (view_tag (tag_of_owner o)) flow.On (farther r 1) (begun_owner o r) (record { shallow = h.shallow; few = h.few }) (owner_counted o r)
 
 -- after the tag of the reference that is its class
 abbrev pub at_class : Seen → Seen
@@ -382,15 +377,12 @@ assigned_text r full = (refl, full, refl)
 pub string_begins : (r : Seen) → HasPlace r → is_full r ≡ false
     → Tells (place_reason (farther r 1) string_tag) (after_tag (farther r 1) string_tag) flow.On (farther r 1) (begun_string r)
 string_begins r h full =
-    let deep = h.shallow in
-    let few = h.few in
     let mid : Seen = counted (farther r 1) in
-    counted_tag string_tag flow.On (farther r 1) mid (begun_string r)
+    counted_tag string_tag flow.On (farther r 1) (begun_string r) (record { shallow = h.shallow; few = h.few })
     (string_begun flow.On mid (begun_string r)
     (λ form inside. new_text (length mid.table.entries) false text.Value flow.On mid (added mid text_entry) (begun_string r) (assigned_text mid full)
     (record { phase_is = refl; frames = refl; layers = refl; table = refl; refs = refl; owner_is = refl; chain_is = refl; header_is = refl; text_is = refl; left = refl; meter = refl })
     refl tt tt))
-    refl (λ over. absurd (omega arith)) (λ over. absurd (omega arith))
 
 pub text_assigned : (b : Bool) (old mid : Seen) → AssignsText b old mid → b ≡ true → AssignsText true old mid
 text_assigned b old mid h e = subst (λ x. AssignsText x old mid) e h

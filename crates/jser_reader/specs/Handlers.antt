@@ -1,6 +1,6 @@
 -- What a handler does with a token whose bytes have all been counted: it refuses it for the reason that is told, or it
 -- goes on to the state to which the token leads, if memory lasts.
-use Rattle.std.specs.Prelude.{◌≡◌, ℕ, suc, ◌++◌, Bool, true, false, List, [], ◌∷◌, length, Option, Some, None, nat_lt, nat_le, ◌&&◌}
+use Rattle.std.specs.Prelude.{◌≡◌, ℕ, suc, ◌++◌, Bool, true, false, List, [], ◌∷◌, length, Option, Some, None, nat_le, ◌&&◌}
 use Rattle.jser_table.specs.declared.layer.Layer.{Layer}
 use Rattle.jser_table.specs.Chains.{is_external, elements_of}
 use Rattle.jser_table.specs.Entries.{TableEntry, text_entry, other_entry, pending_entry}
@@ -30,6 +30,7 @@ use Rattle.jser_reader.specs.declared.refusal.Stop.TheVariants as stop
 use Rattle.jser_reader.specs.Reasons.{named}
 use Rattle.jser_reader.specs.Frames.{goal_owner, chain_owner, goal_role, closed_goals}
 use Rattle.jser_reader.specs.Readers.{Seen, Meter, Header, moment_of, depth_of, goals_of, text_goal, text_rest, Ready}
+use Rattle.jser_reader.specs.Rules.{is_deep, is_one_too_many, with_limits}
 
 -- the machine stopped for this
 pub record StopsWith (why : Stop) (old new : Seen) : Type 0 where
@@ -123,12 +124,20 @@ begun r tag = settled (begin_counted (depth_of r) (moment_of r) tag (goals_of r)
 
 -- The tag of a place: it may be too deep, or one too many, or there may be no handle for it.
 abbrev pub place_reason : Seen → Tag → Option ToldReason
-place_reason r tag =
-    told_if (nat_lt r.meter.limits.depth (depth_of r)) depth_exceeded
-    (told_if (nat_le r.meter.limits.refs r.refs) refs_exceeded (handle_reason r tag))
+place_reason r tag = with_limits r (handle_reason r tag)
 
 abbrev pub counted : Seen → Seen
 counted r = record { meter = r.meter; phase = r.phase; frames = r.frames; layers = r.layers; table = r.table; refs = suc r.refs; owner = r.owner; elements = r.elements; header = r.header; text = r.text; left = r.left; scan = r.scan; name = r.name }
+
+-- a place was counted; or it is too deep, or one too many
+abbrev pub CountCases : Flow → (deep many : Bool) → Seen → Seen → Type 0
+CountCases flow.On deep many old new = (new ≡ counted old) × (deep ≡ false) × (many ≡ false)
+CountCases flow.Stopped true many old new = StopsWith (refusal old.meter (named depth_exceeded)) old new
+CountCases flow.Stopped false true old new = StopsWith (refusal old.meter (named refs_exceeded)) old new
+CountCases flow.Stopped false false old new = ⊥
+
+unfoldable pub CountsPlace : Flow → Seen → Seen → Type 0
+CountsPlace b old new = CountCases b (is_deep old) (is_one_too_many old) old new
 
 unfoldable pub after_tag : Seen → Tag → State
 after_tag r tag = begun (counted r) tag

@@ -15,8 +15,8 @@ pub mod Reasons
 pub mod ReasonNames
 pub mod StopTexts
 pub mod Steps
+pub mod Rules
 pub mod Handlers
-pub mod Classes
 pub mod Closing
 pub mod Superclasses
 pub mod Numbers

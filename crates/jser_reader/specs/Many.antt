@@ -1,23 +1,19 @@
 -- The loop over whole values. While it runs, the counters are kept apart from the machine, and what comes next is told by the
 -- frames alone.
-use Rattle.std.specs.Prelude.{◌≡◌, ℕ, suc, ◌+◌, ◌-◌, ◌^◌, ◌<◌, ◌≤◌, max, ◌==◌, if◌then◌else◌, Bool, true, false, List, [], ◌∷◌, length, get_or, take, drop, slice_get, Some}
+use Rattle.std.specs.Prelude.{◌≡◌, ℕ, suc, ◌+◌, ◌^◌, ◌<◌, ◌≤◌, max, ◌==◌, if◌then◌else◌, Bool, true, false, List, [], ◌∷◌, length, get_or, take, drop, Some}
 use Rattle.jser_prim.specs.Bytes.{big_bytes}
-use Rattle.jser_table.specs.declared.class.Class.TheVariants as class
-use Rattle.jser_table.specs.declared.layer.Fit.TheVariants as fit
 use Rattle.jser_table.specs.declared.layer.Layer.{Layer}
-use Rattle.jser_table.specs.declared.layer.Purpose.TheVariants as purpose
 use Rattle.jser_table.specs.declared.section.Sections.{Sections}
 use Rattle.jser_table.specs.Chains.{chain_in, is_external, has_write_method}
-use Rattle.jser_table.specs.Entries.{TableEntry, is_text, other_entry}
-use Rattle.jser_table.specs.Fits.{fit_of}
+use Rattle.jser_table.specs.Entries.{TableEntry, other_entry}
 use Rattle.jser_table.specs.Sections.{layer_of, under, AreSections}
-use Rattle.jser_table.specs.Tables.{IsClass}
 use Rattle.jser_grammar.specs.Wire.{TC_ARRAY, TC_ENUM, TC_OBJECT}
 use Rattle.jser_reading.specs.Goals.{Part, annotation_if, section_parts, State}
 use Rattle.jser_reading.specs.Totals.{number_if}
 use Rattle.jser_verdict.specs.Gates.{Gate, IsGate}
 use Rattle.jser_reader.specs.declared.frame.Frame.{Frame}
 use Rattle.jser_reader.specs.declared.frame.Frame.TheVariants as frame
+use Rattle.jser_reader.specs.declared.frame.Owner.TheVariants as owner
 use Rattle.jser_reader.specs.declared.machine.many.counts.Begun.{Begun}
 use Rattle.jser_reader.specs.declared.machine.many.counts.Counts.{Counts}
 use Rattle.jser_reader.specs.declared.machine.many.counts.Turn.{Turn}
@@ -31,6 +27,7 @@ use Rattle.jser_reader.specs.Fitting.{FrameFits, AllFit, IsPart}
 use Rattle.jser_reader.specs.Handlers.{Comes, moved, added, pushed, is_full}
 use Rattle.jser_reader.specs.Passes.{Passes, CanPass}
 use Rattle.jser_reader.specs.Readers.{Seen, Ready}
+use Rattle.jser_reader.specs.Rules.{IsClassOf, IsTextHandle}
 use Rattle.jser_reader.specs.Stacks.{tail_of, HasNoValue, IsOnTop, CountsValue}
 use Rattle.jser_reader.specs.Steps.{Kept, before_parts, after_value}
 use Rattle.jser_reader.specs.Takes.{counted_on, farther}
@@ -235,12 +232,6 @@ Settles piece t m i new j = SettleCases piece t m i new j
 
 -- ---- arrays
 
--- a closed class that is an array's, with this chain
-pub record IsArrayClass (r : Seen) (n chain : ℕ) : Type 0 where
-  pub low : n < 0x7E0000 → ⊥
-  pub is_class : IsClass r.table.chains (slice_get r.table.entries (n - 0x7E0000)) (class.Closed chain)
-  pub fits : fit_of purpose.Array (chain_in r.table.chains chain) ≡ fit.Fits
-
 -- the tag of an array, the reference that is its class, and its length, at the place of the counters
 pub record ArrayBegins (piece : List ℕ) (n chain count : ℕ) (r : Seen) (k : Counts) : Type 0 where
   pub holds : HoldsNext piece r k
@@ -249,25 +240,17 @@ pub record ArrayBegins (piece : List ℕ) (n chain count : ℕ) (r : Seen) (k : 
   pub tag : TC_ARRAY ≡ get_or piece k.used 0
   pub class : HasReference (drop k.used piece) n
   pub small : n < 2 ^ 32
-  pub is : IsArrayClass r n chain
+  pub is : IsClassOf r.table owner.Array n chain
   pub spelled : big_bytes 4 count ≡ take 4 (drop (k.used + 6) piece)
   pub low : count < 2 ^ 31
   pub short : count ≤ r.meter.limits.array
 
 -- ---- objects
 
--- a closed class that is an object's, with this chain
-pub record IsObjectClass (r : Seen) (n chain : ℕ) : Type 0 where
-  pub low : n < 0x7E0000 → ⊥
-  pub is_class : IsClass r.table.chains (slice_get r.table.entries (n - 0x7E0000)) (class.Closed chain)
-  pub fits : fit_of purpose.Object (chain_in r.table.chains chain) ≡ fit.Fits
-
--- a closed class that fits an object, whose data have these sections
+-- a class that fits an object, whose data have these sections
 pub record HasSections (r : Seen) (n : ℕ) (sections : Sections) : Type 0 where
   pub chain : ℕ
-  pub low : n < 0x7E0000 → ⊥
-  pub is_class : IsClass r.table.chains (slice_get r.table.entries (n - 0x7E0000)) (class.Closed chain)
-  pub fits : fit_of purpose.Object (chain_in r.table.chains chain) ≡ fit.Fits
+  pub is : IsClassOf r.table owner.Object n chain
   pub plain : is_external (chain_in r.table.chains chain) ≡ false
   pub are : AreSections r.table.chains (chain_in r.table.chains chain) (Some sections)
 
@@ -279,31 +262,19 @@ pub record ObjectBegins (piece : List ℕ) (n chain : ℕ) (r : Seen) (k : Count
   pub tag : TC_OBJECT ≡ get_or piece k.used 0
   pub class : HasReference (drop k.used piece) n
   pub small : n < 2 ^ 32
-  pub is : IsObjectClass r n chain
+  pub is : IsClassOf r.table owner.Object n chain
 
 -- ---- enum constants
 
--- a closed class that is an enum constant's
-pub record IsConstantClass (r : Seen) (n : ℕ) : Type 0 where
-  pub chain : ℕ
-  pub low : n < 0x7E0000 → ⊥
-  pub is_class : IsClass r.table.chains (slice_get r.table.entries (n - 0x7E0000)) (class.Closed chain)
-  pub fits : fit_of purpose.EnumConst (chain_in r.table.chains chain) ≡ fit.Fits
-
--- the handle of a string
-pub record IsTextHandle (r : Seen) (n : ℕ) : Type 0 where
-  pub low : n < 0x7E0000 → ⊥
-  pub is : true ≡ is_text (slice_get r.table.entries (n - 0x7E0000))
-
 -- the tag of an enum constant, the reference that is its class, and the one that is its name, at the place of the counters
-pub record ConstantBegins (piece : List ℕ) (n name : ℕ) (r : Seen) (k : Counts) : Type 0 where
+pub record ConstantBegins (piece : List ℕ) (n name chain : ℕ) (r : Seen) (k : Counts) : Type 0 where
   pub holds : HoldsNext piece r k
   pub place : HasPlace (seen_at r k)
   pub room : k.used + 11 ≤ length piece
   pub tag : TC_ENUM ≡ get_or piece k.used 0
   pub class : HasReference (drop k.used piece) n
   pub small : n < 2 ^ 32
-  pub is : IsConstantClass r n
+  pub is : IsClassOf r.table owner.EnumConst n chain
   pub name_is : HasReference (drop (k.used + 5) piece) name
   pub name_small : name < 2 ^ 32
-  pub text : IsTextHandle r name
+  pub text : IsTextHandle r.table name

@@ -1,7 +1,6 @@
 -- Fields of a descriptor of which all bytes are in a piece.
-use Rattle.std.specs.Prelude.{◌≡◌, ℕ, ◌-◌, ◌^◌, ◌<◌, ◌≤◌, ◌++◌, ◌∷◌, [], ◌||◌, Bool, true, List, length, drop, get_or, slice_get, Option, Some, None, option_map}
+use Rattle.std.specs.Prelude.{◌≡◌, ℕ, ◌-◌, ◌^◌, ◌<◌, ◌≤◌, ◌++◌, ◌∷◌, [], ◌||◌, Bool, List, length, drop, get_or, Option, Some, None, option_map}
 use Rattle.jser_table.specs.Codes.{is_object_code}
-use Rattle.jser_table.specs.Entries.{is_text}
 use Rattle.jser_grammar.specs.Wire.{TC_REFERENCE}
 use Rattle.jser_verdict.specs.Gates.{Gate}
 use Rattle.jser_verdict.specs.Verdicts.{code_reason}
@@ -9,6 +8,7 @@ use Rattle.jser_reader.specs.declared.tally.Tally.{Tally}
 use Rattle.jser_reader.specs.Passes.{Passes, CanPass}
 use Rattle.jser_reader.specs.Reasons.{named}
 use Rattle.jser_reader.specs.Readers.{Header, Seen}
+use Rattle.jser_reader.specs.Rules.{with_text}
 use Rattle.jser_reader.specs.Wholes.{HasNumber}
 
 -- at the front of the piece is a reference with this handle, which is that of a string
@@ -16,8 +16,7 @@ pub record HasType (piece : List ℕ) (n : ℕ) (r : Seen) : Type 0 where
   pub tag : TC_REFERENCE ≡ get_or piece 0 0
   pub is : HasNumber piece n
   pub few : n < 2 ^ 32
-  pub low : n < 0x7E0000 → ⊥
-  pub is_string : true ≡ is_text (slice_get r.table.entries (n - 0x7E0000))
+  pub text : None ≡ option_map named (with_text r.table n)
 
 -- the machine with another head of a descriptor
 abbrev pub with_header : Seen → Header → Seen

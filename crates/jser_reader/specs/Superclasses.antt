@@ -1,20 +1,17 @@
 -- Superclass places: their tags, and the handles of superclasses that have been read.
-use Rattle.std.specs.Prelude.{◌≡◌, ℕ, suc, Bool, true, false, List, [], ◌∷◌, length, Option, Some, None, nat_lt, nat_le}
+use Rattle.std.specs.Prelude.{ℕ, suc, Bool, false, List, [], ◌∷◌, length, Option, Some, None}
 use Rattle.jser_reading.specs.Labels.{StreamToken, tag_token, null_tag, reference_tag, class_desc_tag, proxy_desc_tag, superclass_place_at, superclass_handle_at}
 use Rattle.jser_reading.specs.Roles.{is_strict_above}
 use Rattle.jser_reading.specs.Goals.{State}
 use Rattle.jser_table.specs.declared.layer.Layer.{Layer}
-use Rattle.jser_verdict.specs.Reasons.{Reason, depth_exceeded, refs_exceeded}
-use Rattle.jser_verdict.specs.Verdicts.{told_if, other_tag_reason, superclass_handle_reason}
-use Rattle.jser_reader.specs.declared.machine.flow.Flow.{Flow}
-use Rattle.jser_reader.specs.declared.machine.flow.Flow.TheVariants as flow
+use Rattle.jser_verdict.specs.Reasons.{Reason}
+use Rattle.jser_verdict.specs.Verdicts.{other_tag_reason, superclass_handle_reason}
 use Rattle.jser_reader.specs.declared.frame.Frame.{Frame}
 use Rattle.jser_reader.specs.declared.frame.Frame.TheVariants as frame
 use Rattle.jser_reader.specs.declared.frame.Role.TheVariants as role
-use Rattle.jser_reader.specs.Reasons.{named}
 use Rattle.jser_reader.specs.Frames.{head_layer, goal_role, chain_owner}
 use Rattle.jser_reader.specs.Readers.{Seen, moment_of, superclass_handle_goals}
-use Rattle.jser_reader.specs.Handlers.{StopsWith, refusal, counted, plain_gate, label_at, opens_class, opens_proxy}
+use Rattle.jser_reader.specs.Handlers.{counted, plain_gate, label_at, opens_class, opens_proxy}
 use Rattle.jser_reader.specs.Closing.{closed_state}
 
 -- whether the superclass of the descriptor on top must be a proxy or serializable
@@ -41,22 +38,3 @@ after_super_tag r (Some (tag_token reference_tag)) = (moment_of (counted r), sup
 after_super_tag r (Some (tag_token class_desc_tag)) = opens_class (counted r) (role.Superclass (strict_in r.layers r.frames))
 after_super_tag r (Some (tag_token proxy_desc_tag)) = opens_proxy (counted r) (role.Superclass (strict_in r.layers r.frames))
 after_super_tag r _ = (moment_of r, [])
-
--- a place too deep, or one too many; or it is counted
-abbrev pub is_deep : Seen → Bool
-is_deep r = nat_lt r.meter.limits.depth (suc (length r.frames))
-
-abbrev pub is_one_too_many : Seen → Bool
-is_one_too_many r = nat_le r.meter.limits.refs r.refs
-
-abbrev pub with_limits : Seen → Option Reason → Option Reason
-with_limits r others = told_if (is_deep r) depth_exceeded (told_if (is_one_too_many r) refs_exceeded others)
-
-abbrev pub CountCases : Flow → (deep many : Bool) → Seen → Seen → Type 0
-CountCases flow.On deep many old new = (new ≡ counted old) × (deep ≡ false) × (many ≡ false)
-CountCases flow.Stopped true many old new = StopsWith (refusal old.meter (named depth_exceeded)) old new
-CountCases flow.Stopped false true old new = StopsWith (refusal old.meter (named refs_exceeded)) old new
-CountCases flow.Stopped false false old new = ⊥
-
-unfoldable pub CountsPlace : Flow → Seen → Seen → Type 0
-CountsPlace b old new = CountCases b (is_deep old) (is_one_too_many old) old new

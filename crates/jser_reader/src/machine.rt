@@ -29,6 +29,7 @@ mod parts;
 pub(crate) mod pass;
 pub(crate) mod passed;
 mod places;
+mod rules;
 mod states;
 mod superclasses;
 mod supers;

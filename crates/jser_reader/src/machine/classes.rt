@@ -1,16 +1,13 @@
 //! Class places: the tag and the handle of the class of an object, an array, an enum constant or a class object.
-ghost use Rattle.std.specs.Prelude.{◌≡◌, ◌<◌, ◌-◌, length, suc};
-ghost use Rattle.jser_table.specs.Chains.{chain_in};
+ghost use Rattle.std.specs.Prelude.{◌-◌, length, suc};
 ghost use Rattle.jser_table.specs.Entries.{chain_at};
 ghost use Rattle.jser_grammar.specs.Wire.{TC_PROXYCLASSDESC, BASE_WIRE_HANDLE};
 ghost use Rattle.jser_reading.specs.TokenBytes.{tag_byte};
 ghost use Rattle.jser_reading.specs.TokensFromBytes.{tag_from};
 ghost use Rattle.jser_reading.specs.Labels.{class_place_at, class_handle_at};
-ghost use Rattle.jser_verdict.specs.ClassRows.{fit_of_owner};
 ghost use Rattle.jser_verdict.specs.Verdicts.{class_tag_reason, class_handle_reason};
 ghost use Rattle.jser_reader.specs.Frames.{goal_owner};
 ghost use Rattle.jser_reader.specs.Handlers.{Tells, plain_gate, label_at, after_class_tag, owner_state};
-ghost use Rattle.jser_reader.specs.Classes.{fit_reason};
 ghost use Rattle.jser_reader.specs.Tags.{view_tag};
 
 use crate::frame::{Owner, Role};
@@ -19,8 +16,6 @@ use crate::machine::flow::Flow;
 use crate::phase::Phase;
 use crate::refusal::Reason;
 use crate::tag::{Tag, ValueTag, tag_of};
-use jser_grammar::wire::BASE_WIRE_HANDLE;
-use jser_table::{ChainNumber, Class, Fit, Purpose};
 
 impl Machine {
     /// A new proxy descriptor as the class of the owner.
@@ -73,56 +68,17 @@ impl Machine {
         }
     }
 
-    /// Whether the class with this chain fits its owner, or the first thing that is wrong with it.
-    #[inline(always)]
-    fn fit(&self, owner: Owner, chain: ChainNumber) -> Option<Reason>
-        requires chain { chain < length self.now.table.chains }
-        requires owner { self.now.owner ≡ owner }
-        ensures { result ≡ fit_reason (fit_of_owner (goal_owner self.now.owner) (chain_in self.now.table.chains chain)) }
-    {
-        let purpose = match owner {
-            Owner::Object => Purpose::Object,
-            Owner::Array => Purpose::Array,
-            Owner::EnumConst => Purpose::EnumConst,
-            Owner::ClassObject => return None,
-        };
-        match self.table.chain_fit(chain, purpose) {
-            Fit::Fits => None,
-            Fit::WrongClass => Some(Reason::WrongClass),
-            Fit::ExternalRaw => Some(Reason::ExternalRaw),
-            Fit::NotSerializable => Some(Reason::NotSerializable),
-        }
-    }
-
-    /// The handle of a reference that is the class of this owner.
-    #[tactic(auto, using(crate::proofs::ClassLemmas::low_class, crate::proofs::ClassLemmas::no_such_class, crate::proofs::ClassLemmas::no_class, crate::proofs::ClassLemmas::open_class, crate::proofs::ClassLemmas::wrong_class_handle, crate::proofs::ClassLemmas::right_class))]
-    #[inline(always)]
-    fn known_class_handle(&mut self, owner: Owner, n: u32) -> Flow
-        requires owner { self.old.owner ≡ owner }
-        ensures { Tells (class_handle_reason (plain_gate self.old) (label_at (class_handle_at (goal_owner self.old.owner)) (suc (length self.old.frames)) self.old) (goal_owner self.old.owner) n)
-            (owner_state self.old (chain_at self.old.table.entries (n - BASE_WIRE_HANDLE))) result self.old self.new }
-    {
-        if n < BASE_WIRE_HANDLE {
-            return self.refuse(Reason::NoSuchHandle);
-        }
-        match self.table.class_at(n - BASE_WIRE_HANDLE) {
-            Class::NotThere => self.refuse(Reason::NoSuchHandle),
-            Class::NoClass => self.refuse(Reason::WrongKind),
-            Class::Open => self.refuse(Reason::OpenDescriptor),
-            Class::Closed(chain) => match self.fit(owner, chain) {
-                Some(reason) => self.refuse(reason),
-                None => self.begin_known_owner(owner, chain),
-            },
-        }
-    }
-
     /// The handle of a reference in a class place.
+    #[tactic(auto, using(crate::proofs::ClassLemmas::wrong_class_handle, crate::proofs::ClassLemmas::right_class))]
     #[inline(never)]
     pub(crate) fn class_handle(&mut self, n: u32) -> Flow
         ensures { Tells (class_handle_reason (plain_gate self.old) (label_at (class_handle_at (goal_owner self.old.owner)) (suc (length self.old.frames)) self.old) (goal_owner self.old.owner) n)
             (owner_state self.old (chain_at self.old.table.entries (n - BASE_WIRE_HANDLE))) result self.old self.new }
     {
         let owner = self.owner;
-        self.known_class_handle(owner, n)
+        match self.class_of(owner, n) {
+            Err(reason) => self.refuse(reason),
+            Ok(chain) => self.begin_known_owner(owner, chain),
+        }
     }
 }

@@ -11,16 +11,15 @@ use crate::machine::Machine;
 use crate::machine::flow::Flow;
 use crate::phase::Phase;
 use crate::refusal::Reason;
-use jser_grammar::wire::BASE_WIRE_HANDLE;
 
 impl Machine {
     /// The handle of a reference in a value place.
-    #[tactic(auto, using(crate::proofs::NumberLemmas::low_handle, crate::proofs::NumberLemmas::high_handle, crate::proofs::NumberLemmas::right_handle))]
+    #[tactic(auto, using(crate::proofs::NumberLemmas::wrong_handle, crate::proofs::NumberLemmas::right_handle))]
     #[inline(always)]
     pub(super) fn back_handle(&mut self, n: u32) -> Flow
         ensures { TellsSurely (back_reason self.old n) (after_value self.old) result self.old self.new }
     {
-        if n < BASE_WIRE_HANDLE || n - BASE_WIRE_HANDLE >= self.table.count() {
+        if !self.is_assigned(n) {
             return self.refuse(Reason::NoSuchHandle);
         }
         self.ended()
@@ -73,15 +72,12 @@ impl Machine {
     }
 
     /// The length of an array: so many elements come, if there are any.
-    #[tactic(auto, using(crate::proofs::ArrayLemmas::negative, crate::proofs::ArrayLemmas::too_long, crate::proofs::ArrayLemmas::no_elements, crate::proofs::ArrayLemmas::some_raw, crate::proofs::ArrayLemmas::some_values))]
+    #[tactic(auto, using(crate::proofs::ArrayLemmas::wrong_length, crate::proofs::ArrayLemmas::no_elements, crate::proofs::ArrayLemmas::some_raw, crate::proofs::ArrayLemmas::some_values))]
     pub(super) fn array_length(&mut self, n: u32) -> Flow
         ensures { (elements : Option PrimCode) → self.old.elements ≡ option_map size_of elements → Tells (array_reason (plain_gate self.old) n) (after_length self.old elements n) result self.old self.new }
     {
-        if n >= 0x8000_0000 {
-            return self.refuse(Reason::NegativeLength);
-        }
-        if n > self.limits.array {
-            return self.refuse(Reason::ArrayExceeded);
+        if let Some(reason) = self.length_fault(n) {
+            return self.refuse(reason);
         }
         if n == 0 {
             return self.ended();

@@ -7,7 +7,7 @@ ghost use Rattle.jser_reader.specs.Tags.{view_tag};
 ghost use Rattle.jser_reader.specs.Fitting.{HasDescriptor};
 ghost use Rattle.jser_reader.specs.Handlers.{Tells};
 ghost use Rattle.jser_reader.specs.Closing.{closed_state};
-ghost use Rattle.jser_reader.specs.Superclasses.{CountsPlace, strict_in, super_reason, super_handle_reason, after_super_tag};
+ghost use Rattle.jser_reader.specs.Superclasses.{strict_in, super_reason, super_handle_reason, after_super_tag};
 
 use crate::frame::{Frame, Owner, Role};
 use crate::machine::Machine;
@@ -16,24 +16,8 @@ use crate::phase::Phase;
 use crate::refusal::Reason;
 use crate::tag::{Tag, ValueTag, tag_of};
 use jser_grammar::wire::BASE_WIRE_HANDLE;
-use jser_table::Class;
 
 impl Machine {
-    /// Counts a place, if it is not too deep and not one too many.
-    #[tactic(auto, using(crate::proofs::PlaceLemmas::too_deep, crate::proofs::PlaceLemmas::too_many, crate::proofs::PlaceLemmas::counts))]
-    fn count_place(&mut self) -> Flow
-        ensures { CountsPlace result self.old self.new }
-    {
-        if self.frames.len() >= self.limits.depth as usize {
-            return self.refuse(Reason::DepthExceeded);
-        }
-        if self.refs >= self.limits.refs {
-            return self.refuse(Reason::RefsExceeded);
-        }
-        self.refs += 1;
-        Flow::On
-    }
-
     /// Whether the superclass of the descriptor on top must be a proxy or serializable.
     #[tactic(auto, using(crate::proofs::SuperTagLemmas::strict_value, crate::proofs::SuperTagLemmas::strict_object, crate::proofs::SuperTagLemmas::strict_other, crate::proofs::SuperTagLemmas::strict_super, crate::proofs::SuperTagLemmas::strict_none, crate::proofs::SuperTagLemmas::strict_array, crate::proofs::SuperTagLemmas::strict_enum, crate::proofs::SuperTagLemmas::strict_class))]
     fn is_strict(&self) -> bool
@@ -139,18 +123,13 @@ impl Machine {
     }
 
     /// The handle of a reference in a superclass place.
-    #[tactic(auto, using(crate::proofs::SuperTagLemmas::low_super, crate::proofs::SuperTagLemmas::no_such_super, crate::proofs::SuperTagLemmas::no_class_super, crate::proofs::SuperTagLemmas::open_super, crate::proofs::SuperTagLemmas::unserial_super, crate::proofs::SuperTagLemmas::right_super, crate::proofs::SuperTagLemmas::is_read))]
+    #[tactic(auto, using(crate::proofs::SuperTagLemmas::wrong_super, crate::proofs::SuperTagLemmas::unserial_super, crate::proofs::SuperTagLemmas::right_super, crate::proofs::SuperTagLemmas::is_read))]
     pub(super) fn super_handle(&mut self, n: u32) -> Flow
         ensures { HasDescriptor self.old.frames → Tells (super_handle_reason self.old n) (closed_state self.old (Some (n - BASE_WIRE_HANDLE))) result self.old self.new }
     {
-        if n < BASE_WIRE_HANDLE {
-            return self.refuse(Reason::NoSuchHandle);
-        }
-        match self.table.class_at(n - BASE_WIRE_HANDLE) {
-            Class::NotThere => self.refuse(Reason::NoSuchHandle),
-            Class::NoClass => self.refuse(Reason::WrongKind),
-            Class::Open => self.refuse(Reason::OpenDescriptor),
-            Class::Closed(_) => {
+        match self.closed_class(n) {
+            Err(reason) => self.refuse(reason),
+            Ok(_) => {
                 if self.is_strict() && !self.table.all_serial(n - BASE_WIRE_HANDLE) {
                     return self.refuse(Reason::NotSerializable);
                 }

@@ -15,8 +15,6 @@ use crate::machine::flow::Flow;
 use crate::phase::{Phase, TextFor};
 use crate::refusal::Reason;
 use crate::tag::{Tag, ValueTag, tag_of};
-use jser_grammar::wire::BASE_WIRE_HANDLE;
-use jser_table::Entry;
 
 impl Machine {
     /// A value's tag in a text place.
@@ -69,18 +67,14 @@ impl Machine {
     }
 
     /// The handle of a reference in a text place.
-    #[tactic(auto, using(crate::proofs::TextLemmas::low_text, crate::proofs::TextLemmas::no_such_text, crate::proofs::TextLemmas::right_text, crate::proofs::TextLemmas::wrong_text))]
+    #[tactic(auto, using(crate::proofs::TextLemmas::wrong_text, crate::proofs::TextLemmas::right_text))]
     pub(super) fn text_handle(&mut self, n: u32) -> Flow
         ensures { IsForm self.old.text true → IsInside self.old.text self.old.frames
             → TellsSurely (handle_reason self.old n) (settle (moment_of self.old) (text_rest self.old self.old.text)) result self.old self.new }
     {
-        if n < BASE_WIRE_HANDLE {
-            return self.refuse(Reason::NoSuchHandle);
-        }
-        match self.table.get(n - BASE_WIRE_HANDLE) {
-            None => self.refuse(Reason::NoSuchHandle),
-            Some(Entry::Text) => self.place_done(),
-            Some(_) => self.refuse(Reason::WrongKind),
+        match self.text_fault(n) {
+            Some(reason) => self.refuse(reason),
+            None => self.place_done(),
         }
     }
 

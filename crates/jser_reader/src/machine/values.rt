@@ -111,18 +111,14 @@ impl Machine {
     }
 
     /// The tag of a value, of which nothing has been counted.
-    #[tactic(auto, using(crate::proofs::ValueLemmas::too_deep, crate::proofs::ValueLemmas::too_many, crate::proofs::ValueLemmas::counted_tag))]
+    #[tactic(auto, using(crate::proofs::ValueLemmas::not_placed, crate::proofs::ValueLemmas::placed_tag))]
     #[inline(always)]
     pub(super) fn place(&mut self, tag: ValueTag) -> Flow
         ensures { Tells (place_reason self.old (view_tag tag)) (after_tag self.old (view_tag tag)) result self.old self.new }
     {
-        if self.frames.len() >= self.limits.depth as usize {
-            return self.refuse(Reason::DepthExceeded);
+        match self.count_place() {
+            Flow::On => self.begin(tag),
+            Flow::Stopped => Flow::Stopped,
         }
-        if self.refs >= self.limits.refs {
-            return self.refuse(Reason::RefsExceeded);
-        }
-        self.refs += 1;
-        self.begin(tag)
     }
 }

@@ -1,16 +1,28 @@
 //! Parts of values of which all bytes are in the piece: a number, a reference, a text; and what is counted where a value begins.
 //! They are taken in one step, though each is several tokens.
-ghost use Rattle.std.specs.Prelude.{◌≡◌, ◌+◌, ◌^◌, ◌<◌, ◌≤◌, true, length, take, drop, Some, None, IfSome};
+ghost use Rattle.std.specs.Prelude.{◌≡◌, ◌+◌, ◌^◌, ◌<◌, ◌≤◌, length, take, drop, Some, None, IfSome};
+ghost use Rattle.jser_prim.specs.Bytes.{big_bytes};
 ghost use Rattle.jser_reader.specs.Visits.{field_size};
-ghost use Rattle.jser_reader.specs.Wholes.{HasPlace, HasNumber, HasText, HasReference, AssignsText, AssignsOther, placed, with_class};
+ghost use Rattle.jser_reader.specs.Wholes.{HasNumber, HasText, HasReference, AssignsText, AssignsOther, placed, with_class};
 
 use crate::frame::Owner;
 use crate::item::Field;
 use crate::machine::Machine;
 use crate::phase::Phase;
 use jser_grammar::wire::TC_REFERENCE;
-use jser_prim::{TextScan, read_u16, read_u32};
+use jser_prim::{TextScan, is_plain_between, read_u16, read_u32};
 use jser_table::Kind;
+
+/// The number in the four bytes at this place.
+#[inline(always)]
+pub(crate) fn number_in(piece: &[u8], at: usize) -> u32
+    requires { at + 4 ≤ length piece.now }
+    ensures { big_bytes 4 result ≡ take 4 (drop at piece.now) }
+{
+    let (_, rest) = piece.split_at(at);
+    let (number, _) = rest.split_at(4);
+    read_u32(number)
+}
 
 /// The number in the four bytes after a tag, where all of them are there.
 #[inline(always)]
@@ -20,9 +32,7 @@ pub(crate) fn number_after(piece: &[u8]) -> Option<u32>
     if piece.len() < 5 {
         return None;
     }
-    let (_, rest) = piece.split_at(1);
-    let (number, _) = rest.split_at(4);
-    Some(read_u32(number))
+    Some(number_in(piece, 1))
 }
 
 /// The handle of the reference after a tag, where one comes there and all its bytes are there.
@@ -33,9 +43,7 @@ pub(crate) fn reference_after(piece: &[u8]) -> Option<u32>
     if piece.len() < 6 || piece[1] != TC_REFERENCE {
         return None;
     }
-    let (_, rest) = piece.split_at(2);
-    let (number, _) = rest.split_at(4);
-    Some(read_u32(number))
+    Some(number_in(piece, 2))
 }
 
 /// How many bytes the text has whose length comes after a tag, where all of them are there and are one.
@@ -58,6 +66,23 @@ pub(crate) fn text_after(piece: &[u8]) -> Option<usize>
         Ok(()) => Some(len),
         Err(_) => None,
     }
+}
+
+/// How many bytes the text has whose length comes after a tag or a type code, where all of them are there and each is a unit.
+#[inline(always)]
+pub(crate) fn plain_text_after(piece: &[u8]) -> Option<usize>
+    ensures { IfSome result (λ len. HasText piece.now len) }
+{
+    if piece.len() < 3 {
+        return None;
+    }
+    let (_, rest) = piece.split_at(1);
+    let (number, _) = rest.split_at(2);
+    let len = read_u16(number) as usize;
+    if !is_plain_between(piece, 3, len + 3) {
+        return None;
+    }
+    Some(len)
 }
 
 /// The bytes of the text that comes after a tag and its length of two bytes.
@@ -84,14 +109,6 @@ pub(crate) fn size_of_field(field: Field<'_>) -> usize
 }
 
 impl Machine {
-    /// Whether a place may begin here: it is not too deep, nor one too many.
-    #[inline(always)]
-    pub(crate) fn has_place(&self) -> bool
-        ensures { result ≡ true → HasPlace self.now }
-    {
-        self.frames.len() < self.limits.depth as usize && self.refs < self.limits.refs
-    }
-
     /// Counts a place and so many bytes.
     #[inline(always)]
     pub(crate) fn begin_place(&mut self, size: u64)

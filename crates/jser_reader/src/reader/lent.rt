@@ -17,9 +17,7 @@ use crate::machine::wholes::{number_after, reference_after, text_after, text_in}
 use crate::phase::Phase;
 use crate::reader::Reader;
 use crate::refusal::Stop;
-use jser_grammar::wire::{
-    BASE_WIRE_HANDLE, TC_ARRAY, TC_CLASS, TC_ENUM, TC_OBJECT, TC_REFERENCE, TC_STRING,
-};
+use jser_grammar::wire::{TC_ARRAY, TC_CLASS, TC_ENUM, TC_OBJECT, TC_REFERENCE, TC_STRING};
 
 impl<G: Gate> Reader<G> {
     /// Takes a value that comes next, where all its bytes are at the front of the piece, and lends it: a reference, a string of less
@@ -56,7 +54,7 @@ impl<G: Gate> Reader<G> {
         let Some(n) = number_after(piece) else {
             return Lent::Nothing;
         };
-        if n < BASE_WIRE_HANDLE || n - BASE_WIRE_HANDLE >= self.machine.handles() {
+        if !self.machine.is_assigned(n) {
             return Lent::Nothing;
         }
         if !self.machine.has_place() {

@@ -1,52 +1,18 @@
 //! Arrays of a class that is a reference: those of raw values with all of them, the others as far as their first value.
-ghost use Rattle.std.specs.Prelude.{◌≡◌, ◌+◌, ◌-◌, ◌<◌, ◌≤◌, ◌^◌, get_or, drop, length, take, Some, None, IfSome, option_map};
-ghost use Rattle.jser_prim.specs.Bytes.{big_bytes};
+ghost use Rattle.std.specs.Prelude.{◌≡◌, ◌+◌, ◌-◌, ◌<◌, ◌≤◌, ◌^◌, get_or, length, Some, None, option_map};
 ghost use Rattle.jser_table.specs.Chains.{chain_in, elements_of};
 ghost use Rattle.jser_table.specs.Codes.{size_of};
 ghost use Rattle.jser_grammar.specs.Wire.{TC_ARRAY};
-ghost use Rattle.jser_reader.specs.Many.{HoldsNext, Turns, IsArrayClass, ArrayBegins};
+ghost use Rattle.jser_reader.specs.Many.{HoldsNext, Turns, ArrayBegins};
 
-use crate::frame::Frame;
+use crate::frame::{Frame, Owner};
 use crate::machine::Machine;
 use crate::machine::many::counts::{Counts, Turn};
 use crate::machine::many::objects::reference_at;
-use jser_grammar::wire::BASE_WIRE_HANDLE;
-use jser_prim::read_u32;
-use jser_table::{ChainNumber, Class, Fit, Purpose};
-
-/// The number in the four bytes at this place.
-#[inline(always)]
-fn length_at(piece: &[u8], at: usize) -> u32
-    requires { at + 4 ≤ length piece.now }
-    ensures { big_bytes 4 result ≡ take 4 (drop at piece.now) }
-{
-    let (_, rest) = piece.split_at(at);
-    let (number, _) = rest.split_at(4);
-    read_u32(number)
-}
+use crate::machine::wholes::number_in;
+use jser_table::ChainNumber;
 
 impl Machine {
-    /// The chain of the class with this handle, where it is closed and an array's.
-    #[tactic(auto, using(crate::proofs::ManyArrays::is_array_class))]
-    #[inline(always)]
-    fn array_class(&self, n: u32) -> Option<ChainNumber>
-        ensures { IfSome result (λ chain. IsArrayClass self.now n chain × (chain < length self.now.table.chains)) }
-    {
-        if n < BASE_WIRE_HANDLE {
-            return None;
-        }
-        match self.table.class_at(n - BASE_WIRE_HANDLE) {
-            Class::Closed(chain) => {
-                if self.table.chain_fit(chain, Purpose::Array) == Fit::Fits {
-                    Some(chain)
-                } else {
-                    None
-                }
-            }
-            Class::NotThere | Class::NoClass | Class::Open => None,
-        }
-    }
-
     /// Takes an array of so many raw values, of this size each; or does nothing.
     #[tactic(auto, using(crate::proofs::ManyPlain::nothing_done))]
     #[inline(always)]
@@ -145,11 +111,11 @@ impl Machine {
         if piece.len() - counts.used < 10 {
             return Turn::Nothing;
         }
-        let count = length_at(piece, counts.used + 6);
-        if count >= 0x8000_0000 || count > self.limits.array {
+        let count = number_in(piece, counts.used + 6);
+        if self.length_fault(count).is_some() {
             return Turn::Nothing;
         }
-        let Some(chain) = self.array_class(n) else {
+        let Ok(chain) = self.class_of(Owner::Array, n) else {
             return Turn::Nothing;
         };
         if !self.has_place_at(counts, piece) {

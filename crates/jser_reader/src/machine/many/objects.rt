@@ -4,16 +4,16 @@ ghost use Rattle.jser_table.specs.Chains.{chain_in, is_external};
 ghost use Rattle.jser_table.specs.Sections.{AreSections};
 ghost use Rattle.jser_grammar.specs.Wire.{TC_OBJECT};
 ghost use Rattle.jser_reader.specs.Fitting.{FrameFits, IsPart};
-ghost use Rattle.jser_reader.specs.Many.{seen_at, HoldsNext, Turns, Puts, Opened, IsObjectClass, HasSections, ObjectBegins};
+ghost use Rattle.jser_reader.specs.Many.{seen_at, HoldsNext, Turns, Puts, Opened, HasSections, ObjectBegins};
 ghost use Rattle.jser_reader.specs.Wholes.{HasPlace, HasReference};
 
-use crate::frame::Frame;
+use crate::frame::{Frame, Owner};
 use crate::machine::Machine;
 use crate::machine::many::counts::{Counts, Turn};
 use crate::machine::many::sections::Began;
-use jser_grammar::wire::{BASE_WIRE_HANDLE, TC_REFERENCE};
-use jser_prim::read_u32;
-use jser_table::{ChainNumber, Class, Fit, Purpose, Sections};
+use crate::machine::wholes::number_in;
+use jser_grammar::wire::TC_REFERENCE;
+use jser_table::{ChainNumber, Sections};
 
 /// The handle of the reference after the byte at this place, where one comes there.
 #[tactic(auto, using(crate::proofs::ManyObjects::reference_is))]
@@ -25,9 +25,7 @@ pub(super) fn reference_at(piece: &[u8], at: usize) -> Option<u32>
     if piece[at + 1] != TC_REFERENCE {
         return None;
     }
-    let (_, rest) = piece.split_at(at + 2);
-    let (number, _) = rest.split_at(4);
-    Some(read_u32(number))
+    Some(number_in(piece, at + 2))
 }
 
 impl Machine {
@@ -57,27 +55,6 @@ impl Machine {
         }
         self.drop_frame();
         false
-    }
-
-    /// The chain of the class with this handle, where it is closed and may be an object's.
-    #[tactic(auto, using(crate::proofs::ManyBare::is_object_class))]
-    #[inline(always)]
-    fn object_class(&self, n: u32) -> Option<ChainNumber>
-        ensures { IfSome result (λ chain. IsObjectClass self.now n chain × (chain < length self.now.table.chains)) }
-    {
-        if n < BASE_WIRE_HANDLE {
-            return None;
-        }
-        match self.table.class_at(n - BASE_WIRE_HANDLE) {
-            Class::Closed(chain) => {
-                if self.table.chain_fit(chain, Purpose::Object) == Fit::Fits {
-                    Some(chain)
-                } else {
-                    None
-                }
-            }
-            Class::NotThere | Class::NoClass | Class::Open => None,
-        }
     }
 
     /// Takes an externalizable object as far as its annotation; or does nothing.
@@ -181,7 +158,7 @@ impl Machine {
         let Some(n) = reference_at(piece, counts.used) else {
             return Turn::Nothing;
         };
-        let Some(chain) = self.object_class(n) else {
+        let Ok(chain) = self.class_of(Owner::Object, n) else {
             return Turn::Nothing;
         };
         if !self.has_place_at(counts, piece) {

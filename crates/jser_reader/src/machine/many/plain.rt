@@ -6,9 +6,7 @@ ghost use Rattle.jser_reader.specs.Wholes.{HasPlace, HasNumber, HasText};
 
 use crate::machine::Machine;
 use crate::machine::many::counts::{Counts, Turn};
-use crate::machine::wholes::text_after;
-use jser_grammar::wire::BASE_WIRE_HANDLE;
-use jser_prim::{is_plain_between, read_u16, read_u32};
+use crate::machine::wholes::{number_in, plain_text_after, text_after};
 
 /// The number in the four bytes after the byte at this place.
 #[tactic(auto, using(crate::proofs::ManyPlain::number_is))]
@@ -17,9 +15,7 @@ pub(super) fn number_at(piece: &[u8], at: usize) -> u32
     requires { at + 5 ≤ length piece.now }
     ensures { HasNumber (drop at piece.now) result }
 {
-    let (_, rest) = piece.split_at(at + 1);
-    let (number, _) = rest.split_at(4);
-    read_u32(number)
+    number_in(piece, at + 1)
 }
 
 /// How many bytes the text has whose length comes after a tag, where all of them are there and are one.
@@ -34,16 +30,12 @@ fn any_text(rest: &[u8]) -> Option<usize>
 /// have one byte each are looked at in line.
 #[inline(always)]
 fn text_here(rest: &[u8]) -> Option<usize>
-    requires { 3 ≤ length rest.now }
     ensures { IfSome result (λ len. HasText rest.now len) }
 {
-    let (_, more) = rest.split_at(1);
-    let (number, _) = more.split_at(2);
-    let len = read_u16(number) as usize;
-    if is_plain_between(rest, 3, len + 3) {
-        return Some(len);
+    match plain_text_after(rest) {
+        Some(len) => Some(len),
+        None => any_text(rest),
     }
-    any_text(rest)
 }
 
 impl Machine {
@@ -91,7 +83,7 @@ impl Machine {
         ensures { Turns piece.now result self.old counts.old self.new counts.new }
     {
         let n = number_at(piece, counts.used);
-        if n < BASE_WIRE_HANDLE || n - BASE_WIRE_HANDLE >= self.table.count() {
+        if !self.is_assigned(n) {
             return Turn::Nothing;
         }
         if !self.has_place_at(counts, piece) {

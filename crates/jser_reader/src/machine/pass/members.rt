@@ -12,29 +12,10 @@ ghost use Rattle.jser_reader.specs.Members.{BeginsMember, HasType, MemberCases};
 use crate::item::Field;
 use crate::machine::Machine;
 use crate::machine::fields::is_object_code;
-use crate::machine::wholes::{number_after, size_of_field, text_in};
+use crate::machine::wholes::{number_after, plain_text_after, size_of_field, text_in};
 use crate::phase::{Phase, TextFor};
 use crate::tally::Tally;
-use jser_grammar::wire::{BASE_WIRE_HANDLE, TC_REFERENCE, TC_STRING};
-use jser_prim::{is_plain_between, read_u16};
-use jser_table::Entry;
-
-/// How many bytes the name has whose length comes after a type code, where all of them are there and each is a unit.
-#[inline(always)]
-fn name_after(piece: &[u8]) -> Option<usize>
-    ensures { IfSome result (λ len. HasText piece.now len) }
-{
-    if piece.len() < 3 {
-        return None;
-    }
-    let (_, rest) = piece.split_at(1);
-    let (number, _) = rest.split_at(2);
-    let len = read_u16(number) as usize;
-    if !is_plain_between(piece, 3, len + 3) {
-        return None;
-    }
-    Some(len)
-}
+use jser_grammar::wire::{TC_REFERENCE, TC_STRING};
 
 impl Machine {
     /// The handle of the reference at the front of the piece, where that is one to a string and all its bytes are there.
@@ -45,13 +26,10 @@ impl Machine {
         let Some(n) = number_after(piece) else {
             return None;
         };
-        if piece[0] != TC_REFERENCE || n < BASE_WIRE_HANDLE {
+        if piece[0] != TC_REFERENCE || self.text_fault(n).is_some() {
             return None;
         }
-        match self.table.get(n - BASE_WIRE_HANDLE) {
-            Some(Entry::Text) => Some(n),
-            _ => None,
-        }
+        Some(n)
     }
 
     /// Keeps the type code of a field, where it may stand there and there is memory for it; or does nothing.
@@ -145,7 +123,7 @@ impl Machine {
         requires phase { self.old.phase ≡ Phase.TypeCode }
         ensures { FieldCases piece.now result self.old self.new }
     {
-        let Some(len) = name_after(piece) else {
+        let Some(len) = plain_text_after(piece) else {
             return None;
         };
         let code = piece[0];
@@ -191,7 +169,7 @@ impl Machine {
         requires phase { self.old.phase ≡ Phase.TextTag }
         ensures { MemberCases piece.now result self.old self.new }
     {
-        let Some(len) = name_after(piece) else {
+        let Some(len) = plain_text_after(piece) else {
             return None;
         };
         if piece[0] != TC_STRING || self.text != TextFor::FieldType {

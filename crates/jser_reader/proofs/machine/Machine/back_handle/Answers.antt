@@ -4,4 +4,4 @@ use Rattle.jser_reader.proofs.NumberLemmas.{right_handle}
 use Rattle.jser_reader.proofs.machine.Machine.back_handle.Goals as goal
 
 pub returns : goal.returns
-returns c = right_handle c.args.n c.ended.result c.args.self.now c.ended.new.self (search rules) (search rules) (search rules) (search rules)
+returns c = right_handle c.args.n c.is_assigned.result c.ended.result c.args.self.now c.ended.new.self (search rules) (search rules) (search rules) (search rules)

@@ -10,7 +10,7 @@ returns-then-not-assign_other c = nothing_done c.args.piece.now _ _ _ _ (no_othe
 
 pub returns : goal.returns
 returns c =
-    constant_turn c.args.piece.now c.in-Some.n c.in-Some-reference_at.name _ _ _ _
-    (constant_begins c.args.piece.now c.in-Some.n c.in-Some-reference_at.name _ _ c.requires.holds (c.has_place_at.ensures.place (search rules)) (search rules) (omega (arith, c.requires.room)) c.requires.tag
-    c.in-Some.ensures (omega arith) (c.is_constant_class.ensures (search rules)) c.in-Some-reference_at.ensures (omega arith) (c.is_text_handle.ensures (search rules)))
+    constant_turn c.args.piece.now c.in-Some.n c.in-Some-reference_at.name c.in-Ok.field-0 _ _ _ _
+    (constant_begins c.args.piece.now c.in-Some.n c.in-Some-reference_at.name c.in-Ok.field-0 _ _ c.requires.holds (c.has_place_at.ensures.place (search rules)) (search rules) (omega (arith, c.requires.room)) c.requires.tag
+    c.in-Some.ensures (omega arith) c.in-Ok.ensures.is c.in-Some-reference_at.ensures (omega arith) (c.text_fault.ensures.text (search rules)))
     (was_assigned _ _ _ c.assign_other.ensures (search rules)) c.place.ensures

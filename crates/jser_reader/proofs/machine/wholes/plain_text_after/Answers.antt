@@ -1,6 +1,6 @@
 use Rattle.std.proofs.Common.{rules, arith}
 use Rattle.jser_reader.proofs.PlainTextLemmas.{plain_text}
-use Rattle.jser_reader.proofs.machine.pass.members.name_after.Goals as goal
+use Rattle.jser_reader.proofs.machine.wholes.plain_text_after.Goals as goal
 
 pub returns : goal.returns
 returns c =
