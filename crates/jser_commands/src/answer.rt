@@ -91,9 +91,10 @@ pub(crate) fn print_bytes<W: Sink, E: Sink>(
     }
 }
 
-/// Prints a line, and returns its status, or tells why it could not be printed.
+/// Prints a line, and returns its status. Where the line could not be printed, or there was no memory for it, that is told on
+/// `faults`, and the status is that of a failure.
 #[tactic(auto, using(crate::proofs::Lines::kept, crate::proofs::Lines::appends_some))]
-pub(crate) fn print_line<W: Sink, E: Sink>(
+pub fn print_line<W: Sink, E: Sink>(
     output: &mut W,
     faults: &mut E,
     line: Result<String, AllocError>,

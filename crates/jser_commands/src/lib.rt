@@ -2,7 +2,8 @@
 //!
 //! `line_of` of jser_line reads the words of a command line, `filter_of`, `filter_in` and `modules_of` of jser_settings make
 //! what they set, and `run` does the job. The program opens the files. `start_of_show` and `start_of_list` give the first bytes
-//! of these texts to callers that want no more; `text_of_report` and its neighbours give the line of an answer.
+//! of these texts to callers that want no more; `text_of_report` and its neighbours give the line of an answer, and `print_line` prints
+//! one.
 #![tactic(auto)]
 
 mod answer;
@@ -16,7 +17,7 @@ mod reasons;
 mod show;
 mod start;
 
-pub use answer::{text_of_hidden, text_of_refusal, text_of_report};
+pub use answer::{print_line, text_of_hidden, text_of_refusal, text_of_report};
 pub use job::{Job, run};
 pub use reasons::{meaning_of, meaning_of_hidden};
 pub use start::{Start, start_of_list, start_of_show};

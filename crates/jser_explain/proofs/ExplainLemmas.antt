@@ -1,175 +1,163 @@
--- The line of a check went out, and then more.
-use Rattle.std.proofs.Common.{◌≡◌, ℕ, Bool, true, false, if◌then◌else◌, List, [], ◌∷◌, Option, Some, None, option_map, refl, sym, ap, ◌∙◌, subst, inl, inr}
-use Rattle.std.specs.Prelude.{IfSome, ◌⊎◌, codes}
+-- The line of what was found went out, and then why.
+use Rattle.std.proofs.Common.{◌≡◌, ℕ, Bool, true, false, List, ◌++◌, Option, Some, None, length, refl, sym, ap, ◌∙◌, subst, inl, inr}
+use Rattle.std.specs.Prelude.{IfSome, ◌⊎◌, ◌<◌, ◌^◌}
 use Rattle.std.specs.Io.KnownBytes.{Appends}
-use Rattle.jser_filter.specs.Filters.{FilterView}
-use Rattle.jser_check.specs.declared.Options.{Options}
-use Rattle.jser_inputs.specs.declared.fault.InputFault.{InputFault}
-use Rattle.jser_inputs.specs.declared.form.Form.TheVariants as form
-use Rattle.jser_inputs.specs.declared.place.Place.TheVariants as place
-use Rattle.jser_inputs.specs.declared.spot.Spot.{Spot}
-use Rattle.jser_inputs.specs.declared.spot.Move.{Move}
-use Rattle.jser_inputs.specs.declared.spot.Move.TheVariants as move
-use Rattle.jser_inputs.specs.Digits.{is_space}
-use Rattle.jser_inputs.specs.Places.{spare_space}
-use Rattle.jser_inputs.specs.Spelled.{follows, spelled, spelling_of}
-use Rattle.jser_settings.specs.Settings.{Tells, TellsNoMemory}
-use Rattle.jser_commands.specs.Lines.{SaysNo, SaysNoAnywhere, SaysAccepted, SaysFailed, SaysRefused, SaysUnwritten, HasLimit, options_of}
-use Rattle.jser_commands.specs.Lines.{SaysWhy as SaysWhyNot}
+use Rattle.jser_commands.specs.Lines.{yes_line, no_line, hidden_line, options_of, AppendsSome, SaysAccepted, SaysFailed, SaysNo, SaysNoAnywhere, SaysRefused, SaysYes, SaysYesAnywhere}
+use Rattle.jser_commands.proofs.Lines.{no_cut, yes_cut}
 use Rattle.jser_scan.specs.declared.check.Rules.{Rules}
-use Rattle.jser_commands.specs.declared.job.Job.{Job}
-use Rattle.jser_commands.specs.declared.job.Job.TheVariants as job
 use Rattle.jser_scan.specs.declared.found.Found.{Found}
-use Rattle.jser_scan.specs.Founds.{IsFound}
+use Rattle.jser_scan.specs.declared.found.Found.TheVariants as found
+use Rattle.jser_scan.specs.Founds.{IsFound, IsFoundIf, NamesFirst}
+use Rattle.jser_scan.specs.LastSeen.{AreLast, KeepsEndOfFront, LastSeen}
 use Rattle.jser_explain.specs.Whys.{SaysSomeWhy, SaysWhy}
-use Rattle.jser_explain.specs.Explains.{asked, check_of, Explained, ExplainedSome, ExplainsAll, ExplainsSome, IsCheck, LeavesSome, TellsWhy}
+use Rattle.jser_explain.specs.Explains.{asked, check_of, line_of, Explained, ExplainedSome, ExplainsSome, HasStatus, LeavesLine, LeavesSome, SaidOfFront, SaidOfKept}
 
--- what went out beside a line of a refusal
+-- ---- the line of an answer
 
-no_on : (filter : FilterView) (options : Options) (bytes : List ℕ) (Went After : List ℕ → Type 0) → ((line : List ℕ) → Went line → After line) → SaysNo filter options bytes Went
-    → SaysNo filter options bytes After
-no_on filter options bytes Went After on says = record {
-  refusal = says.refusal;
-  refused = says.refused;
-  first = says.first;
-  printed = on _ says.printed;
+accepted_if : (anywhere : Bool) (rules : Rules) (bytes : List ℕ) (result : Found) (Went : List ℕ → Type 0) → HasStatus result 0
+    → IsFoundIf anywhere rules bytes result → Went (line_of result) → SaysAccepted (check_of anywhere rules.strict rules.filter) bytes Went
+accepted_if false rules bytes (found.Accepted totals) Went has is went = record { report = totals; reported = is; printed = went }
+accepted_if true rules bytes (found.Accepted totals) Went has is went = record { report = totals; reported = is; printed = went }
+accepted_if anywhere rules bytes (found.Refused refusal class) Went (inl one) is went = absurd (cc)
+accepted_if anywhere rules bytes (found.Refused refusal class) Went (inr three) is went = absurd (cc)
+accepted_if anywhere rules bytes (found.Hidden from to class) Went (inl one) is went = absurd (cc)
+accepted_if anywhere rules bytes (found.Hidden from to class) Went (inr three) is went = absurd (cc)
+accepted_if anywhere rules bytes found.NotOpened Went has is went = absurd (cc)
+accepted_if anywhere rules bytes (found.NotRead fault) Went has is went = absurd (cc)
+accepted_if anywhere rules bytes found.OutOfMemory Went has is went = absurd (cc)
+
+refused_by : (anywhere : Bool) (rules : Rules) (bytes : List ℕ) (result : Found) (Went : List ℕ → Type 0) → HasStatus result 1
+    → IsFoundIf anywhere rules bytes result → NamesFirst rules bytes result → Went (line_of result)
+    → SaysRefused (check_of anywhere rules.strict rules.filter) bytes Went
+refused_by anywhere rules bytes (found.Accepted totals) Went (inl none) is first went = absurd (cc)
+refused_by anywhere rules bytes (found.Accepted totals) Went (inr three) is first went = absurd (cc)
+refused_by false rules bytes (found.Refused refusal class) Went has is first went = record { refusal = refusal; refused = is.0; first = first; printed = went }
+refused_by true rules bytes (found.Refused refusal class) Went has is first went = inl (record { refusal = refusal; refused = is.0; printed = went })
+refused_by false rules bytes (found.Hidden from to class) Went has is first went = absurd is
+refused_by true rules bytes (found.Hidden from to class) Went has is first went = inr (record { from = from; to = to; hidden = is.0; printed = went })
+refused_by anywhere rules bytes found.NotOpened Went has is first went = absurd (cc)
+refused_by anywhere rules bytes (found.NotRead fault) Went has is first went = absurd (cc)
+refused_by anywhere rules bytes found.OutOfMemory Went has is first went = absurd (cc)
+
+-- where the bytes are known
+
+if_accepted : (anywhere : Bool) (rules : Rules) (told : Option (List ℕ)) (result : Found) (Went : List ℕ → Type 0) → HasStatus result 0
+    → IfSome told (λ bytes. IsFoundIf anywhere rules bytes result) → Went (line_of result)
+    → IfSome told (λ bytes. SaysAccepted (check_of anywhere rules.strict rules.filter) bytes Went)
+if_accepted anywhere rules None result Went has is went = tt
+if_accepted anywhere rules (Some bytes) result Went has is went = accepted_if anywhere rules bytes result Went has is went
+
+if_refused : (anywhere : Bool) (rules : Rules) (told : Option (List ℕ)) (result : Found) (Went : List ℕ → Type 0) → HasStatus result 1
+    → IfSome told (λ bytes. IsFoundIf anywhere rules bytes result) → IfSome told (λ bytes. NamesFirst rules bytes result) → Went (line_of result)
+    → IfSome told (λ bytes. SaysRefused (check_of anywhere rules.strict rules.filter) bytes Went)
+if_refused anywhere rules None result Went has is first went = tt
+if_refused anywhere rules (Some bytes) result Went has is first went = refused_by anywhere rules bytes result Went has is first went
+
+pub accepts : (rules : Rules) (told : Option (List ℕ)) (result : Found) (status : ℕ) (Went : List ℕ → Type 0) → HasStatus result status → status ≡ 0
+    → IfSome told (λ bytes. IsFound rules bytes result) → Went (line_of result) → IfSome told (λ bytes. SaysAccepted (asked rules) bytes Went)
+accepts rules told result status Went has zero is went =
+    if_accepted rules.anywhere rules told result Went (subst (λ s. HasStatus result s) zero has) is went
+
+-- ---- why
+
+front_of : (rules : Rules) (bytes : List ℕ) (result : Found) (last : LastSeen) (Said : List ℕ → Type 0) → IsFound rules bytes result → KeepsEndOfFront last bytes
+    → SaidOfKept last Said → SaidOfFront rules bytes result Said
+front_of rules bytes result last Said is ends of = record {
+  found = is;
+  front = of.kept;
+  rest = ends.rest;
+  split = ends.split ∙ ap (λ xs. xs ++ ends.rest) (sym (of.all ends.front ends.ends ends.few));
+  said = of.said;
 }
 
-anywhere_on : (filter : FilterView) (options : Options) (bytes : List ℕ) (Went After : List ℕ → Type 0) → ((line : List ℕ) → Went line → After line)
-    → SaysNoAnywhere filter options bytes Went → SaysNoAnywhere filter options bytes After
-anywhere_on filter options bytes Went After on (inl says) = inl (record { refusal = says.refusal; refused = says.refused; printed = on _ says.printed })
-anywhere_on filter options bytes Went After on (inr says) = inr (record { from = says.from; to = says.to; hidden = says.hidden; printed = on _ says.printed })
+pub explained : (rules : Rules) (told : Option (List ℕ)) (result : Found) (last : LastSeen) (status : ℕ) (old mid new : Option (List ℕ)) → HasStatus result status
+    → status ≡ 1 → IfSome told (λ bytes. IsFound rules bytes result) → IfSome told (λ bytes. NamesFirst rules bytes result)
+    → IfSome told (λ bytes. KeepsEndOfFront last bytes) → Appends old mid (line_of result) → SaidOfKept last (λ kept. SaysWhy kept result mid new)
+    → IfSome told (λ bytes. SaysRefused (asked rules) bytes (Explained rules bytes old new))
+explained rules None result last status old mid new has one is first ends went of = tt
+explained rules (Some bytes) result last status old mid new has one is first ends went of =
+    refused_by rules.anywhere rules bytes result (Explained rules bytes old new) (subst (λ s. HasStatus result s) one has) is first (record {
+      result = result;
+      line_is = refl;
+      between = mid;
+      printed = went;
+      why = front_of rules bytes result last (λ front. SaysWhy front result mid new) is ends of;
+    })
 
--- by the check
-check_on : (anywhere strict : Bool) (filter : FilterView) (bytes : List ℕ) (Went After : List ℕ → Type 0) → ((line : List ℕ) → Went line → After line)
-    → SaysRefused (check_of anywhere strict filter) bytes Went → SaysRefused (check_of anywhere strict filter) bytes After
-check_on false strict filter bytes Went After on says = no_on filter (options_of strict) bytes Went After on says
-check_on true strict filter bytes Went After on says = anywhere_on filter (options_of strict) bytes Went After on says
+some_of : (rules : Rules) (bytes : List ℕ) (result : Found) (last : LastSeen) (failed : Bool) (old new : Option (List ℕ)) → IsFound rules bytes result → KeepsEndOfFront last bytes
+    → (new ≡ old) ⊎ ((failed ≡ true) × SaidOfKept last (λ kept. SaysSomeWhy kept result old new)) → ExplainsSome rules bytes result failed old new
+some_of rules bytes result last failed old new is ends (inl same) = inl same
+some_of rules bytes result last failed old new is ends (inr of) =
+    inr (of.0, front_of rules bytes result last (λ front. SaysSomeWhy front result old new) is ends of.1)
 
-rules_on : (rules : Rules) (told : Option (List ℕ)) (Went After : List ℕ → Type 0) → ((line : List ℕ) → Went line → After line) → IfSome told (λ bytes. SaysRefused (asked rules) bytes Went)
-    → IfSome told (λ bytes. SaysRefused (asked rules) bytes After)
-rules_on rules None Went After on says = tt
-rules_on rules (Some bytes) Went After on says = check_on rules.anywhere rules.strict rules.filter bytes Went After on says
+pub explained_some : (rules : Rules) (told : Option (List ℕ)) (result : Found) (last : LastSeen) (status : ℕ) (failed : Bool) (old mid new : Option (List ℕ)) → HasStatus result status
+    → status ≡ 1 → IfSome told (λ bytes. IsFound rules bytes result) → IfSome told (λ bytes. NamesFirst rules bytes result)
+    → IfSome told (λ bytes. KeepsEndOfFront last bytes) → Appends old mid (line_of result)
+    → (new ≡ mid) ⊎ ((failed ≡ true) × SaidOfKept last (λ kept. SaysSomeWhy kept result mid new)) → LeavesSome rules told failed old new
+explained_some rules None result last status failed old mid new has one is first ends went of = inr tt
+explained_some rules (Some bytes) result last status failed old mid new has one is first ends went of =
+    inr (refused_by rules.anywhere rules bytes result (ExplainedSome rules bytes failed old new) (subst (λ s. HasStatus result s) one has) is first (record {
+      result = result;
+      line_is = refl;
+      between = mid;
+      printed = went;
+      why = some_of rules bytes result last failed mid new is ends of;
+    }))
 
-pub says_on : (the_job : Job) (rules : Rules) (told same : Option (List ℕ)) (Went After : List ℕ → Type 0) → the_job ≡ asked rules → told ≡ same
-    → ((line : List ℕ) → Went line → After line) → IfSome told (λ bytes. SaysRefused the_job bytes Went) → IfSome same (λ bytes. SaysRefused (asked rules) bytes After)
-says_on the_job rules told same Went After is one on says =
-    rules_on rules same Went After on (subst (λ t. IfSome t (λ bytes. SaysRefused (asked rules) bytes Went)) one
-    (subst (λ j. IfSome told (λ bytes. SaysRefused j bytes Went)) is says))
+-- of the bytes that are kept
 
-pub explained : (rules same : Rules) (old mid new : Option (List ℕ)) → same ≡ rules → ExplainsAll same mid new → (line : List ℕ) → Appends old mid line → Explained rules old new line
-explained rules same old mid new is why line printed = record { between = mid; printed = printed; why = subst (λ r. ExplainsAll r mid new) is why }
+pub said_of_kept : (last : LastSeen) (kept : List ℕ) (Said : List ℕ → Type 0) → ((bytes : List ℕ) → AreLast last bytes → length bytes < 2 ^ 64 → kept ≡ bytes)
+    → Said kept → SaidOfKept last Said
+said_of_kept last kept Said all said = record { kept = kept; all = all; said = said }
 
-pub explained_some : (rules same : Rules) (failed : Bool) (old mid new : Option (List ℕ)) → same ≡ rules → ExplainsSome same failed mid new → (line : List ℕ) → Appends old mid line
-    → ExplainedSome rules failed old new line
-explained_some rules same failed old mid new is why line printed = record { between = mid; printed = printed; why = subst (λ r. ExplainsSome r failed mid new) is why }
+pub some_said_of_kept : (last : LastSeen) (kept : List ℕ) (failed : Bool) (old new : Option (List ℕ)) (Said : List ℕ → Type 0)
+    → ((bytes : List ℕ) → AreLast last bytes → length bytes < 2 ^ 64 → kept ≡ bytes) → failed ≡ true → Said kept
+    → (new ≡ old) ⊎ ((failed ≡ true) × SaidOfKept last Said)
+some_said_of_kept last kept failed old new Said all off said = inr (off, record { kept = kept; all = all; said = said })
 
-pub leaves_some : (the_job : Job) (rules : Rules) (told same : Option (List ℕ)) (failed : Bool) (old new : Option (List ℕ)) → the_job ≡ asked rules → told ≡ same
-    → SaysFailed the_job told failed old new → LeavesSome rules same failed old new
-leaves_some the_job rules told same failed old new is one says =
-    inl (subst (λ t. SaysFailed (asked rules) t failed old new) one (subst (λ j. SaysFailed j told failed old new) is says))
+pub nothing_said : (last : LastSeen) (failed : Bool) (old : Option (List ℕ)) (Said : List ℕ → Type 0) → (old ≡ old) ⊎ ((failed ≡ true) × SaidOfKept last Said)
+nothing_said last failed old Said = inl refl
 
--- ---- why, of what was kept
+-- ---- where there is no answer
 
-pub explains_all : (rules : Rules) (kept : List ℕ) (result : Found) (old new : Option (List ℕ)) → IsFound rules kept result → SaysWhy kept result old new → ExplainsAll rules old new
-explains_all rules kept result old new found says = record { kept = kept; result = result; found = found; says = says }
+leaves_if : (anywhere : Bool) (rules : Rules) (told : Option (List ℕ)) (result : Found) (failed : Bool) (old new : Option (List ℕ))
+    → IfSome told (λ bytes. IsFoundIf anywhere rules bytes result) → IfSome told (λ bytes. NamesFirst rules bytes result) → LeavesLine result failed old new
+    → SaysFailed (check_of anywhere rules.strict rules.filter) told failed old new
+leaves_if false rules told (found.Accepted totals) failed old new is first leaves =
+    yes_cut failed old new told (yes_line totals) (SaysYes rules.filter (options_of rules.strict)) (SaysNo rules.filter (options_of rules.strict))
+    (if_accepted false rules told (found.Accepted totals) (AppendsSome old new) (inl refl) is) leaves
+leaves_if true rules told (found.Accepted totals) failed old new is first leaves =
+    yes_cut failed old new told (yes_line totals) (SaysYesAnywhere rules.filter (options_of rules.strict)) (SaysNoAnywhere rules.filter (options_of rules.strict))
+    (if_accepted true rules told (found.Accepted totals) (AppendsSome old new) (inl refl) is) leaves
+leaves_if false rules told (found.Refused refusal class) failed old new is first leaves =
+    no_cut failed old new told (no_line refusal) (SaysYes rules.filter (options_of rules.strict)) (SaysNo rules.filter (options_of rules.strict))
+    (if_refused false rules told (found.Refused refusal class) (AppendsSome old new) (inl refl) is first) leaves
+leaves_if true rules told (found.Refused refusal class) failed old new is first leaves =
+    no_cut failed old new told (no_line refusal) (SaysYesAnywhere rules.filter (options_of rules.strict)) (SaysNoAnywhere rules.filter (options_of rules.strict))
+    (if_refused true rules told (found.Refused refusal class) (AppendsSome old new) (inl refl) is first) leaves
+leaves_if false rules told (found.Hidden from to class) failed old new is first leaves =
+    no_cut failed old new told (hidden_line from to) (SaysYes rules.filter (options_of rules.strict)) (SaysNo rules.filter (options_of rules.strict))
+    (if_refused false rules told (found.Hidden from to class) (AppendsSome old new) (inl refl) is first) leaves
+leaves_if true rules told (found.Hidden from to class) failed old new is first leaves =
+    no_cut failed old new told (hidden_line from to) (SaysYesAnywhere rules.filter (options_of rules.strict)) (SaysNoAnywhere rules.filter (options_of rules.strict))
+    (if_refused true rules told (found.Hidden from to class) (AppendsSome old new) (inl refl) is first) leaves
+leaves_if false rules told found.NotOpened failed old new is first leaves = inl leaves
+leaves_if true rules told found.NotOpened failed old new is first leaves = inl leaves
+leaves_if false rules told (found.NotRead fault) failed old new is first leaves = inl leaves
+leaves_if true rules told (found.NotRead fault) failed old new is first leaves = inl leaves
+leaves_if false rules told found.OutOfMemory failed old new is first leaves = inl leaves
+leaves_if true rules told found.OutOfMemory failed old new is first leaves = inl leaves
 
-pub explains_front : (rules : Rules) (kept : List ℕ) (result : Found) (failed : Bool) (old new : Option (List ℕ)) → IsFound rules kept result → failed ≡ true
-    → SaysSomeWhy kept result old new → ExplainsSome rules failed old new
-explains_front rules kept result failed old new found off says = inr (off, record { kept = kept; result = result; found = found; says = says })
+pub leaves_line : (rules : Rules) (told : Option (List ℕ)) (result : Found) (failed : Bool) (old new : Option (List ℕ)) → IfSome told (λ bytes. IsFound rules bytes result)
+    → IfSome told (λ bytes. NamesFirst rules bytes result) → LeavesLine result failed old new → LeavesSome rules told failed old new
+leaves_line rules told result failed old new is first leaves = inl (leaves_if rules.anywhere rules told result failed old new is first leaves)
 
-pub explains_none : (rules : Rules) (failed : Bool) (told : Option (List ℕ)) → ExplainsSome rules failed told told
-explains_none rules failed told = inl refl
-
--- bytes as they are spell themselves
-
-either : (b : Bool) (s : Move) → (if b then s else s) ≡ s
-either true s = refl
-either false s = refl
-
-abbrev as_they_are : ℕ → Spot
-as_they_are spare = record { place = place.Bytes; spare = spare }
-
-plain : (spare : ℕ) (bytes : List ℕ) → spelled (as_they_are spare) bytes ≡ bytes
-unfolding spelled
-plain spare [] = refl
-plain spare (c ∷ bytes) = ap (λ s. follows s (λ next. spelled next bytes)) (either (is_space c) (move.Gives c (as_they_are spare))) ∙ ap (λ xs. c ∷ xs) (plain spare bytes)
-
-pub found_of_kept : (rules : Rules) (bytes : List ℕ) (text told : Option (List ℕ)) (result : Found) → text ≡ Some bytes → told ≡ option_map (spelling_of form.Binary) text
-    → IfSome told (λ b. IsFound rules b result) → IsFound rules bytes result
-found_of_kept rules bytes text told result is spells found =
-    subst (λ b. IsFound rules b result) (plain spare_space bytes)
-    (subst (λ t. IfSome t (λ b. IsFound rules b result)) (spells ∙ ap (option_map (spelling_of form.Binary)) is) found)
-
--- ---- the rules of a job
-
-check_by : (anywhere : Bool) (strict same : Bool) (filter view : FilterView) → job.Check filter strict ≡ check_of anywhere same view → (anywhere ≡ false) × (strict ≡ same) × (filter ≡ view)
-check_by false strict same filter view is = (refl, cc, cc)
-check_by true strict same filter view is = absurd (cc)
-
-anywhere_by : (anywhere : Bool) (strict same : Bool) (filter view : FilterView) → job.CheckAnywhere filter strict ≡ check_of anywhere same view
-    → (anywhere ≡ true) × (strict ≡ same) × (filter ≡ view)
-anywhere_by true strict same filter view is = (refl, cc, cc)
-anywhere_by false strict same filter view is = absurd (cc)
-
-these : (rules : Rules) (filter : FilterView) (strict anywhere : Bool) → rules.anywhere ≡ anywhere → strict ≡ rules.strict → filter ≡ rules.filter
-    → record { filter = filter; strict = strict; anywhere = anywhere } ≡ rules
-these rules filter strict anywhere a s f =
-    ap (λ x. record { filter = x; strict = strict; anywhere = anywhere }) f ∙ ap (λ x. record { filter = rules.filter; strict = x; anywhere = anywhere }) s
-    ∙ ap (λ x. record { filter = rules.filter; strict = rules.strict; anywhere = x }) (sym a)
-
-pub rules_of_check : (the_job : Job) (rules : Rules) (filter : FilterView) (strict : Bool) → the_job ≡ job.Check filter strict → the_job ≡ asked rules
-    → record { filter = filter; strict = strict; anywhere = false } ≡ rules
-rules_of_check the_job rules filter strict is same =
-    let by = check_by rules.anywhere strict rules.strict filter rules.filter (sym is ∙ same) in
-    these rules filter strict false by.0 by.1 by.2
-
-pub rules_of_anywhere : (the_job : Job) (rules : Rules) (filter : FilterView) (strict : Bool) → the_job ≡ job.CheckAnywhere filter strict → the_job ≡ asked rules
-    → record { filter = filter; strict = strict; anywhere = true } ≡ rules
-rules_of_anywhere the_job rules filter strict is same =
-    let by = anywhere_by rules.anywhere strict rules.strict filter rules.filter (sym is ∙ same) in
-    these rules filter strict true by.0 by.1 by.2
-
--- ---- where nothing more is said
-
-pub says_no_more : (the_job : Job) (rules : Rules) (told same : Option (List ℕ)) (Went : List ℕ → Type 0) → the_job ≡ asked rules → told ≡ same → IfSome told (λ bytes. SaysAccepted the_job bytes Went)
-    → IfSome same (λ bytes. SaysAccepted (asked rules) bytes Went)
-says_no_more the_job rules told same Went is one says =
-    subst (λ t. IfSome t (λ bytes. SaysAccepted (asked rules) bytes Went)) one (subst (λ j. IfSome told (λ bytes. SaysAccepted j bytes Went)) is says)
-
-pub no_limit : (the_job : Job) → IsCheck the_job → HasLimit the_job → ⊥
-no_limit (job.Check filter strict) is has = has
-no_limit (job.CheckAnywhere filter strict) is has = has
-no_limit (job.Show values) is has = is
-no_limit (job.ShowLimited values limit) is has = is
-no_limit (job.List filter) is has = is
-no_limit (job.ListAnywhere filter) is has = is
-
--- the statuses of a check
-pub status_of : (the_job : Job) (status : ℕ) → IsCheck the_job → (status ≡ 0) ⊎ ((status ≡ 1) ⊎ ((status ≡ 3) ⊎ ((status ≡ 4) × HasLimit the_job)))
-    → (status ≡ 0) ⊎ ((status ≡ 1) ⊎ (status ≡ 3))
-status_of the_job status is (inl zero_is) = inl zero_is
-status_of the_job status is (inr (inl one_is)) = inr (inl one_is)
-status_of the_job status is (inr (inr (inl three_is))) = inr (inr three_is)
-status_of the_job status is (inr (inr (inr four_is))) = absurd (no_limit the_job is four_is.1)
-
--- why there is no answer
-pub told_of_write : (failed : Bool) (broken : Bool) (old new : Option (List ℕ)) → broken ≡ true → Tells failed old new (codes "write failed\n") → TellsWhy broken failed old new
-told_of_write failed broken old new is told = inr (inl (is, told))
-
-pub told_of_memory : (broken failed : Bool) (old new : Option (List ℕ)) → TellsNoMemory failed old new → TellsWhy broken failed old new
-told_of_memory broken failed old new told = inr (inr told)
-
-told_unwritten : (write_before write_after failed : Bool) (old new : Option (List ℕ)) → SaysUnwritten write_before write_after failed old new → TellsWhy write_after failed old new
-told_unwritten write_before write_after failed old new (inl written) = inr (inl written)
-told_unwritten write_before write_after failed old new (inr ran_out) = inr (inr ran_out.1)
-
-pub told_of_job : (why : InputFault) (read_before read_after write_before write_after failed : Bool) (old new : Option (List ℕ))
-    → SaysWhyNot why read_before read_after write_before write_after failed old new → TellsWhy write_after failed old new
-told_of_job why read_before read_after write_before write_after failed old new (inl unread) = inl (why, unread.2)
-told_of_job why read_before read_after write_before write_after failed old new (inr unwritten) =
-    told_unwritten write_before write_after failed old new unwritten.1
-
--- why there is no answer, where nothing was told before
-pub told_since : (broken failed : Bool) (old mid new : Option (List ℕ)) → mid ≡ old → TellsWhy broken failed mid new → TellsWhy broken failed old new
-told_since broken failed old mid new is told = subst (λ o. TellsWhy broken failed o new) is told
+-- the statuses
+pub status_of : (result : Found) (status : ℕ) → HasStatus result status → (status ≡ 0) ⊎ ((status ≡ 1) ⊎ (status ≡ 3))
+status_of (found.Accepted totals) status (inl is) = inl is
+status_of (found.Accepted totals) status (inr is) = inr (inr is)
+status_of (found.Refused refusal class) status is = inr is
+status_of (found.Hidden from to class) status is = inr is
+status_of found.NotOpened status is = inr (inr is)
+status_of (found.NotRead fault) status is = inr (inr is)
+status_of found.OutOfMemory status is = inr (inr is)

@@ -1,5 +1,6 @@
 pub mod ExplainLemmas
 pub mod LengthLemmas
+pub mod LineLemmas
 pub mod OpenLemmas
 pub mod PieceLemmas
 pub mod ShortLemmas

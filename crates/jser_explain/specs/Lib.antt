@@ -1,4 +1,3 @@
-pub mod Devices
 pub mod Short
 pub mod Heads
 pub mod Opened

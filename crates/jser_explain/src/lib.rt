@@ -6,7 +6,7 @@
 
 mod answer;
 mod hint;
-mod kept;
+mod line;
 mod opened;
 mod piece;
 mod sentence;

@@ -1,18 +1,20 @@
 -- What was found of a file.
-use Rattle.std.proofs.Common.{◌≡◌, ℕ, List, Bool, true, false, Option, Some, None, Ok, Err, sym, subst}
+use Rattle.std.proofs.Common.{◌≡◌, ℕ, List, Bool, true, false, Option, Some, None, Ok, Err, sym, subst, ◌≢◌}
 use Rattle.std.specs.declared.alloc.Global.{Global}
 use Rattle.std.specs.Prelude.{IfSome, Vec}
 use Rattle.jser_reader.specs.declared.Refusal.{Refusal}
 use Rattle.jser_reader.specs.declared.Totals.{Totals}
 use Rattle.jser_reader.specs.declared.Stop.TheVariants as stop
 use Rattle.jser_inputs.specs.declared.InputFault.{InputFault}
-use Rattle.jser_check.specs.Answers.{Reports, Refuses}
+use Rattle.jser_grammar.specs.Parts.{IsBytes}
+use Rattle.jser_check.specs.Admitted.{gate_of_filter}
+use Rattle.jser_check.specs.Answers.{CarriesFirst, Reports, Refuses}
 use Rattle.jser_check_anywhere.specs.declared.AnywhereFault.TheVariants as fault
 use Rattle.jser_check_anywhere.specs.SourceAnswers.{SourceTells}
 use Rattle.jser_scan.specs.declared.check.Rules.{Rules}
 use Rattle.jser_scan.specs.declared.found.Found.{Found}
 use Rattle.jser_scan.specs.declared.found.Found.TheVariants as found
-use Rattle.jser_scan.specs.Founds.{FailsAs, IsFound, IsFoundAnywhere, IsFoundBy, IsFoundIf, IsNameFor, IsRefusal, IsRefusedName, options_in}
+use Rattle.jser_scan.specs.Founds.{FailsAs, IsFound, IsFoundAnywhere, IsFoundBy, IsFoundIf, IsHidden, IsNameFor, IsRefusal, IsRefusedName, NamesFirst, options_in}
 
 pub accepted : (rules : Rules) (told : Option (List ℕ)) (totals : Totals) → IfSome told (λ bytes. Reports rules.filter (options_in rules) bytes totals)
     → IfSome told (λ bytes. IsFoundBy rules bytes (found.Accepted totals))
@@ -47,6 +49,23 @@ refusal_fails rules refusal found.NotOpened failed_before failed_after why is sa
 refusal_fails rules refusal (found.NotRead fault) failed_before failed_after why is same = absurd is
 refusal_fails rules refusal found.OutOfMemory failed_before failed_after why is same = same
 
+-- a refusal is told with its first fault
+pub names_first : (rules : Rules) (told : Option (List ℕ)) (refusal : Refusal) (result : Found)
+    → IfSome told (λ bytes. IsBytes bytes → CarriesFirst (gate_of_filter rules.filter (options_in rules)) bytes refusal) → IsRefusal rules refusal result
+    → IfSome told (λ bytes. NamesFirst rules bytes result)
+names_first rules None refusal result h is = tt
+names_first rules (Some bytes) refusal (found.Accepted totals) h is = tt
+names_first rules (Some bytes) refusal (found.Refused same class) h is =
+    subst (λ r. IsBytes bytes → CarriesFirst (gate_of_filter rules.filter (options_in rules)) bytes r) (sym is.0) h
+names_first rules (Some bytes) refusal (found.Hidden from to class) h is = tt
+names_first rules (Some bytes) refusal found.NotOpened h is = tt
+names_first rules (Some bytes) refusal (found.NotRead why) h is = tt
+names_first rules (Some bytes) refusal found.OutOfMemory h is = tt
+
+-- a file that was opened is not told as one that was not
+pub not_unopened : (result : Found) (failed_before failed_after : Bool) (why : InputFault) → FailsAs result failed_before failed_after why → result ≢ found.NotOpened
+not_unopened result failed_before failed_after why fails is = subst (λ r. FailsAs r failed_before failed_after why) is fails
+
 -- ---- with names at any place
 
 pub accepted_anywhere : (rules : Rules) (told : Option (List ℕ)) (totals : Totals) → SourceTells rules.filter (options_in rules) told (Ok totals)
@@ -78,6 +97,21 @@ undecided_anywhere rules (Some bytes) = tt
 pub unread_anywhere : (rules : Rules) (told : Option (List ℕ)) (why : InputFault) → IfSome told (λ bytes. IsFoundAnywhere rules bytes (found.NotRead why))
 unread_anywhere rules None why = tt
 unread_anywhere rules (Some bytes) why = tt
+
+pub names_first_anywhere : (rules : Rules) (told : Option (List ℕ)) (refusal : Refusal) (result : Found)
+    → SourceTells rules.filter (options_in rules) told (Err (fault.Stop (stop.Refused refusal))) → IsRefusal rules refusal result
+    → IfSome told (λ bytes. NamesFirst rules bytes result)
+names_first_anywhere rules None refusal result h is = tt
+names_first_anywhere rules (Some bytes) refusal result h is = names_first rules (Some bytes) refusal result h.first is
+
+pub hidden_first : (rules : Rules) (told : Option (List ℕ)) (from to : ℕ) (result : Found) → IsHidden rules from to result → IfSome told (λ bytes. NamesFirst rules bytes result)
+hidden_first rules None from to result is = tt
+hidden_first rules (Some bytes) from to (found.Accepted totals) is = tt
+hidden_first rules (Some bytes) from to (found.Refused same class) is = absurd is
+hidden_first rules (Some bytes) from to (found.Hidden starts ends class) is = tt
+hidden_first rules (Some bytes) from to found.NotOpened is = tt
+hidden_first rules (Some bytes) from to (found.NotRead why) is = tt
+hidden_first rules (Some bytes) from to found.OutOfMemory is = tt
 
 -- ---- by what is asked for
 

@@ -84,3 +84,20 @@ part_stands last older newer bytes part ended first start end same e fs se ee is
     ap (λ xs. take ((end - first) - (start - first)) (drop (start - first) xs)) kept ∙ sym (seam older newer (start - first) ((end - first) - (start - first)) _ _ refl (omega arith)) ∙ sym is in
     subst (λ n. StandsBetween bytes start n part) to
     (subst (λ n. StandsBetween bytes n (first + (end - first)) part) from (subst (λ xs. StandsBetween bytes (first + (start - first)) (first + (end - first)) xs) whole found))
+
+-- where as many are kept as there were, all are
+all_of : (lost kept : List ℕ) → length (lost ++ kept) ≡ length kept → lost ++ kept ≡ kept
+all_of [] kept same = refl
+all_of (x ∷ lost) kept same =
+    let l = length-append lost kept in
+    absurd (omega arith)
+
+pub all_kept : (last : LastSeen) (older newer : List ℕ) (end : ℕ) → last ≡ record { kept = older ++ newer; end = end } → older ≡ [] → length newer ≡ end
+    → (bytes : List ℕ) → AreLast last bytes → length bytes < 2 ^ 64 → newer ≡ bytes
+all_kept last older newer end is none same bytes are few =
+    let kept : last.kept ≡ newer = ap (λ r. r.kept) is ∙ ap (λ xs. xs ++ newer) none in
+    let count = are.counted few in
+    let ends : last.end ≡ end = ap (λ r. r.end) is in
+    let split : bytes ≡ are.lost ++ newer = are.split ∙ ap (λ xs. are.lost ++ xs) kept in
+    let long = ap length split in
+    sym (split ∙ all_of are.lost newer (omega arith))

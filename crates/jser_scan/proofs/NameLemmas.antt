@@ -16,7 +16,7 @@ use Rattle.jser_check.specs.Sources.{TakesAtMost}
 use Rattle.jser_scan.specs.declared.found.Found.{Found}
 use Rattle.jser_scan.specs.declared.found.Found.TheVariants as found
 use Rattle.jser_scan.specs.Devices.{HasGiven, KeepsEnd}
-use Rattle.jser_scan.specs.LastSeen.{AreLast, LastSeen, StandsBetween}
+use Rattle.jser_scan.specs.LastSeen.{AreLast, KeepsEndOfFront, LastSeen, StandsBetween}
 use Rattle.jser_scan.specs.NamePlaces.{NameStands}
 
 -- ---- the text of a token
@@ -101,6 +101,17 @@ gives_none None has last all off k = absurd k
 gives_none (Some xs) None last all off k = absurd off
 gives_none (Some xs) (Some ys) last all off k = subst (λ zs. HasGiven last zs all) (sym off) k
 
+pub front_kept : (had has : Option (List ℕ)) (old new : LastSeen) → AreLast old [] → ((all : List ℕ) → KeepsEnd had old all → KeepsEnd has new all)
+    → TakesAtMost (most_bytes + 1) had has → IfSome had (λ bytes. KeepsEndOfFront new bytes)
+front_kept None has old new starts keeps few = tt
+front_kept (Some all) None old new starts keeps few = absurd few.off
+front_kept (Some all) (Some rest) old new starts keeps few =
+    let k = keeps all (record { given = []; split = refl; ends = starts }) in
+    let g = ap length k.split ∙ length-append k.given rest in
+    let b = ap length few.off ∙ length-append few.bytes rest in
+    let f = few.few in
+    record { front = k.given; rest = rest; split = k.split; few = omega arith; ends = k.ends }
+
 -- ---- a file
 
 name_longer : (bytes more : List ℕ) (result : Found) → NameStands bytes result → NameStands (bytes ++ more) result
@@ -113,18 +124,14 @@ name_longer bytes more found.NotOpened is = tt
 name_longer bytes more (found.NotRead fault) is = tt
 name_longer bytes more found.OutOfMemory is = tt
 
-pub no_name : (told : Option (List ℕ)) → IfSome told (λ bytes. Unit {0})
-no_name None = tt
-no_name (Some bytes) = tt
+pub nothing_told : (told : Option (List ℕ)) → IfSome told (λ bytes. Unit {0})
+nothing_told None = tt
+nothing_told (Some bytes) = tt
 
 pub name_told : (had has : Option (List ℕ)) (old new : LastSeen) (result : Found) → AreLast old [] → ((all : List ℕ) → KeepsEnd had old all → KeepsEnd has new all)
     → TakesAtMost (most_bytes + 1) had has → ((bytes : List ℕ) → AreLast new bytes → length bytes < 2 ^ 64 → NameStands bytes result)
     → IfSome had (λ bytes. NameStands bytes result)
 name_told None has old new result starts keeps few stands = tt
-name_told (Some all) None old new result starts keeps few stands = absurd few.off
-name_told (Some all) (Some rest) old new result starts keeps few stands =
-    let k = keeps all (record { given = []; split = refl; ends = starts }) in
-    let g = ap length k.split ∙ length-append k.given rest in
-    let b = ap length few.off ∙ length-append few.bytes rest in
-    let f = few.few in
-    subst (λ bytes. NameStands bytes result) (sym k.split) (name_longer k.given rest result (stands k.given k.ends (omega arith)))
+name_told (Some all) has old new result starts keeps few stands =
+    let f = front_kept (Some all) has old new starts keeps few in
+    subst (λ bytes. NameStands bytes result) (sym f.split) (name_longer f.front f.rest result (stands f.front f.ends f.few))

@@ -4,7 +4,7 @@ use Rattle.std.specs.Io.KnownBytes.{Appends, Keeps}
 use Rattle.jser_prim.specs.ModifiedUtf8.{utf16_units}
 use Rattle.jser_filter.specs.Pieces.{pieces_of}
 use Rattle.jser_suggest.specs.Suggested.{Known, suggested, suggested_text}
-use Rattle.jser_scan.specs.Samples.{LeavesSuggested, SaysSomeSuggested, SaysSuggested, SpellsSuggested}
+use Rattle.jser_scan.specs.Samples.{LeavesSuggested, SaysSuggested, SpellsSuggested}
 
 pub line_says : (known : Known) (text line : List ℕ) → utf16_units text ≡ suggested_text known → pieces_of (utf16_units text) ≡ suggested known → line ≡ text ++ codes "\n"
     → SpellsSuggested known line

@@ -6,7 +6,9 @@ use Rattle.jser_reader.specs.declared.Reason.TheVariants as reason
 use Rattle.jser_reader.specs.declared.Refusal.{Refusal}
 use Rattle.jser_inputs.specs.declared.InputFault.{InputFault}
 use Rattle.jser_check.specs.declared.Options.{Options}
-use Rattle.jser_check.specs.Answers.{Reports, Refuses}
+use Rattle.jser_grammar.specs.Parts.{IsBytes}
+use Rattle.jser_check.specs.Admitted.{gate_of_filter}
+use Rattle.jser_check.specs.Answers.{CarriesFirst, Reports, Refuses}
 use Rattle.jser_check_anywhere.specs.Answers.{ReportsAnywhere}
 use Rattle.jser_check_anywhere.specs.SourceAnswers.{RefusedIn, HiddenIn}
 use Rattle.jser_check_anywhere.specs.Passing.{passes_name}
@@ -79,3 +81,12 @@ IsFoundIf true rules bytes result = IsFoundAnywhere rules bytes result
 
 abbrev pub IsFound : Rules → List ℕ → Found → Type 0
 IsFound rules bytes result = IsFoundIf rules.anywhere rules bytes result
+
+-- a refusal names the first fault
+abbrev pub NamesFirst : Rules → List ℕ → Found → Type 0
+NamesFirst rules bytes (found.Accepted totals) = Unit {0}
+NamesFirst rules bytes (found.Refused refusal class) = IsBytes bytes → CarriesFirst (gate_of_filter rules.filter (options_in rules)) bytes refusal
+NamesFirst rules bytes (found.Hidden from to class) = Unit {0}
+NamesFirst rules bytes found.NotOpened = Unit {0}
+NamesFirst rules bytes (found.NotRead fault) = Unit {0}
+NamesFirst rules bytes found.OutOfMemory = Unit {0}

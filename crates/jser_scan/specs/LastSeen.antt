@@ -12,6 +12,14 @@ pub record AreLast (last : LastSeen) (bytes : List ℕ) : Type 0 where
   pub split : bytes ≡ lost ++ last.kept
   pub counted : length bytes < 2 ^ 64 → last.end ≡ length bytes
 
+-- the first bytes of a stream were seen, and the last of these are kept
+pub record KeepsEndOfFront (last : LastSeen) (bytes : List ℕ) : Type 0 where
+  pub front : List ℕ
+  pub rest : List ℕ
+  pub split : bytes ≡ front ++ rest
+  pub few : length front < 2 ^ 64
+  pub ends : AreLast last front
+
 -- these bytes stand in others from one place to another
 pub record StandsBetween (bytes : List ℕ) (start end : ℕ) (part : List ℕ) : Type 0 where
   pub before : List ℕ

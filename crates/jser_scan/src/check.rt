@@ -1,7 +1,10 @@
 //! The check of one file.
-ghost use Rattle.std.specs.Prelude.{◌≡◌, ◌<◌, ◌^◌, ℕ, List, [], length, IfSome};
-ghost use Rattle.jser_scan.specs.Founds.{FailsAs, IsFound, IsFoundAnywhere, IsFoundBy, IsHidden, IsRefusal};
-ghost use Rattle.jser_scan.specs.LastSeen.{AreLast};
+ghost use Rattle.std.specs.Prelude.{◌≢◌, ◌+◌, ◌<◌, ◌^◌, ℕ, List, [], length, IfSome};
+ghost use Rattle.jser_grammar.specs.Caps.{most_bytes};
+ghost use Rattle.jser_check.specs.Sources.{TakesAtMost};
+ghost use Rattle.jser_scan.specs.Devices.{KeepsEnd};
+ghost use Rattle.jser_scan.specs.Founds.{FailsAs, IsFound, IsFoundAnywhere, IsFoundBy, IsHidden, IsRefusal, NamesFirst};
+ghost use Rattle.jser_scan.specs.LastSeen.{AreLast, KeepsEndOfFront};
 ghost use Rattle.jser_scan.specs.NamePlaces.{NameStands};
 
 use crate::class::{hidden_name, refused_name};
@@ -30,28 +33,60 @@ pub struct Rules {
 ///
 /// It keeps the last bytes that it read, at most some 250,000, and copies those of the refused class's name. It gives the input
 /// back.
-#[tactic(auto, using(crate::proofs::FoundLemmas::found_plainly, crate::proofs::FoundLemmas::found_anywhere))]
 pub fn check_file<R: Input + Drop>(alloc: Global, rules: &Rules, input: R) -> (Found, R)
     ensures found { IfSome (R.to_come input) (λ bytes. IsFound rules.now bytes result.0) }
+    ensures first { IfSome (R.to_come input) (λ bytes. NamesFirst rules.now bytes result.0) }
     ensures name { IfSome (R.to_come input) (λ bytes. NameStands bytes result.0) }
     ensures fails { FailsAs result.0 (R.has_failed input) (R.has_failed result.1) (R.why_failed result.1) }
 {
-    let mut tail = Tail::new(alloc, input);
-    let found = if rules.anywhere {
-        check_names(alloc, rules, &mut tail)
+    let mut tail = Tail::new(input, LastBytes::new(alloc));
+    let found = check_tail(alloc, rules, &mut tail);
+    let (input, _last) = tail.into_parts();
+    (found, input)
+}
+
+/// Checks the bytes of a file as `check_file` does, and keeps all that it reads, where there is memory for them. These are the
+/// first bytes of the file: where it is refused, not all of them were read.
+#[tactic(auto, using(crate::proofs::FoundLemmas::not_unopened))]
+pub fn check_keeping<R: Input + Drop>(alloc: Global, rules: &Rules, input: R) -> (Found, LastBytes)
+    ensures found { IfSome (R.to_come input) (λ bytes. IsFound rules.now bytes result.0) }
+    ensures first { IfSome (R.to_come input) (λ bytes. NamesFirst rules.now bytes result.0) }
+    ensures opened { result.0 ≢ Found.NotOpened }
+    ensures kept { IfSome (R.to_come input) (λ bytes. KeepsEndOfFront result.1 bytes) }
+{
+    let mut tail = Tail::new(input, LastBytes::all(alloc));
+    let found = check_tail(alloc, rules, &mut tail);
+    let (_input, last) = tail.into_parts();
+    (found, last)
+}
+
+/// The check that is asked for.
+#[tactic(auto, using(crate::proofs::FoundLemmas::found_plainly, crate::proofs::FoundLemmas::found_anywhere))]
+fn check_tail<R: Input>(alloc: Global, rules: &Rules, tail: &mut Tail<R>) -> Found
+    requires { AreLast tail.old.last [] }
+    ensures found { IfSome tail.old.bytes (λ bytes. IsFound rules.now bytes result) }
+    ensures first { IfSome tail.old.bytes (λ bytes. NamesFirst rules.now bytes result) }
+    ensures name { IfSome tail.old.bytes (λ bytes. NameStands bytes result) }
+    ensures fails { FailsAs result tail.old.has_failed tail.new.has_failed tail.new.why }
+    ensures kept { IfSome tail.old.bytes (λ bytes. KeepsEndOfFront tail.new.last bytes) }
+{
+    if rules.anywhere {
+        check_names(alloc, rules, tail)
     } else {
-        check(alloc, rules, &mut tail)
-    };
-    (found, tail.into_source())
+        check(alloc, rules, tail)
+    }
 }
 
 /// The check without names at any place.
-#[tactic(auto, using(crate::proofs::FoundLemmas::accepted, crate::proofs::FoundLemmas::refused, crate::proofs::FoundLemmas::undecided, crate::proofs::FoundLemmas::unread, crate::proofs::FoundLemmas::refusal_fails, crate::proofs::NameLemmas::no_name))]
+#[tactic(auto, using(crate::proofs::FoundLemmas::accepted, crate::proofs::FoundLemmas::refused, crate::proofs::FoundLemmas::undecided, crate::proofs::FoundLemmas::unread, crate::proofs::FoundLemmas::refusal_fails, crate::proofs::FoundLemmas::names_first, crate::proofs::NameLemmas::nothing_told))]
 fn check<R: Input>(alloc: Global, rules: &Rules, tail: &mut Tail<R>) -> Found
     requires { AreLast tail.old.last [] }
     ensures found { IfSome tail.old.bytes (λ bytes. IsFoundBy rules.now bytes result) }
+    ensures first { IfSome tail.old.bytes (λ bytes. NamesFirst rules.now bytes result) }
     ensures name { IfSome tail.old.bytes (λ bytes. NameStands bytes result) }
     ensures fails { FailsAs result tail.old.has_failed tail.new.has_failed tail.new.why }
+    ensures remembers { (all : List ℕ) → KeepsEnd tail.old.bytes tail.old.last all → KeepsEnd tail.new.bytes tail.new.last all }
+    ensures within { TakesAtMost (most_bytes + 1) tail.old.bytes tail.new.bytes }
 {
     let options = Options {
         strict: rules.strict,
@@ -70,12 +105,15 @@ fn check<R: Input>(alloc: Global, rules: &Rules, tail: &mut Tail<R>) -> Found
 }
 
 /// The check with them.
-#[tactic(auto, using(crate::proofs::FoundLemmas::accepted_anywhere, crate::proofs::FoundLemmas::refused_anywhere, crate::proofs::FoundLemmas::hidden_anywhere, crate::proofs::FoundLemmas::undecided_anywhere, crate::proofs::FoundLemmas::unread_anywhere, crate::proofs::FoundLemmas::refusal_fails, crate::proofs::NameLemmas::no_name))]
+#[tactic(auto, using(crate::proofs::FoundLemmas::accepted_anywhere, crate::proofs::FoundLemmas::refused_anywhere, crate::proofs::FoundLemmas::hidden_anywhere, crate::proofs::FoundLemmas::undecided_anywhere, crate::proofs::FoundLemmas::unread_anywhere, crate::proofs::FoundLemmas::refusal_fails, crate::proofs::FoundLemmas::hidden_first, crate::proofs::NameLemmas::nothing_told))]
 fn check_names<R: Input>(alloc: Global, rules: &Rules, tail: &mut Tail<R>) -> Found
     requires { AreLast tail.old.last [] }
     ensures found { IfSome tail.old.bytes (λ bytes. IsFoundAnywhere rules.now bytes result) }
+    ensures first { IfSome tail.old.bytes (λ bytes. NamesFirst rules.now bytes result) }
     ensures name { IfSome tail.old.bytes (λ bytes. NameStands bytes result) }
     ensures fails { FailsAs result tail.old.has_failed tail.new.has_failed tail.new.why }
+    ensures remembers { (all : List ℕ) → KeepsEnd tail.old.bytes tail.old.last all → KeepsEnd tail.new.bytes tail.new.last all }
+    ensures within { TakesAtMost (most_bytes + 1) tail.old.bytes tail.new.bytes }
 {
     let options = Options {
         strict: rules.strict,

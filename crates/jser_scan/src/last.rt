@@ -1,4 +1,4 @@
-//! The last bytes of a stream, in which the name of a refused class is looked up.
+//! The last bytes of a stream, in which the name of a refused class is looked up; or all its bytes.
 ghost use Rattle.std.specs.Prelude.{◌≡◌, ◌++◌, ◌-◌, ◌<◌, ◌^◌, ◌≤◌, ℕ, List, [], length, take, drop, IfOk, OnOk, IfSome};
 
 use std::alloc::{AllocError, Global};
@@ -7,10 +7,12 @@ use std::marker::Model;
 /// How many of the last bytes are kept at least: a text with its length.
 const MOST: usize = 65_537;
 
-/// The last bytes of a stream, at least 65,537 of them. Where there is no memory for them none are kept, and that is
+/// The last bytes of a stream: at least 65,537 of them, or all. Where there is no memory for them none are kept, and that is
 /// remembered.
 #[derive(Drop)]
 pub struct LastBytes {
+    /// How many newer bytes there are before older ones are let go.
+    most: usize,
     older: Vec<u8>,
     newer: Vec<u8>,
     end: u64,
@@ -33,7 +35,22 @@ impl LastBytes {
     pub fn new(alloc: Global) -> LastBytes
         ensures { AreLast result [] }
     {
+        LastBytes::with(alloc, MOST)
+    }
+
+    /// All bytes of a stream of none. Takes no memory.
+    pub(crate) fn all(alloc: Global) -> LastBytes
+        ensures { AreLast result [] }
+    {
+        LastBytes::with(alloc, usize::MAX)
+    }
+
+    /// The last bytes of a stream of none, of which older ones are let go where there are so many newer ones.
+    fn with(alloc: Global, most: usize) -> LastBytes
+        ensures { AreLast result [] }
+    {
         LastBytes {
+            most,
             older: Vec::new(alloc),
             newer: Vec::new(alloc),
             end: 0,
@@ -54,6 +71,18 @@ impl LastBytes {
     /// Whether there was no memory for the bytes.
     pub(crate) fn ran_out(&self) -> bool {
         self.ran_out
+    }
+
+    /// All bytes of the stream, if they are all still kept.
+    #[tactic(auto, using(crate::proofs::LastLemmas::all_kept))]
+    pub fn whole(&self) -> Option<&[u8]>
+        ensures { IfSome result (λ whole. (bytes : List ℕ) → AreLast self.now bytes → length bytes < 2 ^ 64 → whole.now ≡ bytes) }
+    {
+        if self.older.is_empty() && self.newer.len() as u64 == self.end {
+            Some(self.newer.as_slice())
+        } else {
+            None
+        }
     }
 
     /// The bytes from one place of the stream to another, if they are all still kept.
@@ -105,7 +134,7 @@ impl LastBytes {
     fn let_go(&mut self)
         ensures { LetsGo self.old self.new }
     {
-        if self.newer.len() >= MOST {
+        if self.newer.len() >= self.most {
             std::mem::swap(&mut self.older, &mut self.newer);
             self.newer.clear();
         }

@@ -6,7 +6,6 @@ ghost use Rattle.jser_scan.specs.LastSeen.{AreLast};
 use crate::last::LastBytes;
 use jser_inputs::{Input, InputFault};
 use jser_prim::{Failed, Source};
-use std::alloc::Global;
 use std::marker::Model;
 
 /// An input that keeps the last bytes that it gave.
@@ -25,24 +24,23 @@ impl<R: Input> Model for Tail<R> {
 }
 
 impl<R: Input> Tail<R> {
-    /// An input of the bytes of `source`.
-    pub(crate) fn new(alloc: Global, source: R) -> Tail<R>
+    /// An input of the bytes of `source`, which keeps the last of them so.
+    pub(crate) fn new(source: R, last: LastBytes) -> Tail<R>
+        requires { AreLast last [] }
         ensures bytes { result.bytes ≡ R.to_come source }
         ensures failed { result.has_failed ≡ R.has_failed source }
         ensures last { AreLast result.last [] }
     {
-        Tail {
-            source,
-            last: LastBytes::new(alloc),
-        }
+        Tail { source, last }
     }
 
-    /// The input whose bytes it gave.
-    pub(crate) fn into_source(self) -> R
-        ensures failed { R.has_failed result ≡ self.has_failed }
-        ensures why { R.why_failed result ≡ self.why }
+    /// The input whose bytes it gave, and the last of them.
+    pub(crate) fn into_parts(self) -> (R, LastBytes)
+        ensures failed { R.has_failed result.0 ≡ self.has_failed }
+        ensures why { R.why_failed result.0 ≡ self.why }
+        ensures last { result.1 ≡ self.last }
     {
-        self.source
+        (self.source, self.last)
     }
 
     /// The last bytes that it gave.

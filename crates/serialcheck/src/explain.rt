@@ -46,13 +46,21 @@ pub(crate) fn explain_file<W: Sink, E: Sink>(
         strict: options.strict,
         anywhere: options.anywhere,
     };
-    explain_under(rt, rules, text.as_str(), options.form, file, output, faults)
+    explain_under(
+        rt,
+        &rules,
+        text.as_str(),
+        options.form,
+        file,
+        output,
+        faults,
+    )
 }
 
 /// Explains the answer for a file under these rules, whose filter has this text.
 fn explain_under<W: Sink, E: Sink>(
     rt: &HostRuntime,
-    rules: Rules,
+    rules: &Rules,
     text: &str,
     form: Form,
     file: &str,

@@ -17,17 +17,17 @@ use std::alloc::Global;
 /// line went out, or some of these.
 pub fn explained<R: Input + Drop, W: Sink, E: Sink>(
     alloc: Global,
-    rules: Rules,
+    rules: &Rules,
     text: &str,
     input: R,
     output: &mut W,
     faults: &mut E,
 ) -> Option<bool>
-    ensures yes { result ≡ Some true → IfSome (R.to_come input) (IsYes (asked «rules»)) }
-    ensures no { result ≡ Some false → IfSome (R.to_come input) (IsNo (asked «rules»)) }
-    ensures printed { result ≡ Some true → IfSome (R.to_come input) (λ bytes. EachListPrints (asked «rules») bytes (Appends (W.gone_out output.old) (W.gone_out output.new))) }
-    ensures said { result ≡ Some false → IfSome (R.to_come input) (λ bytes. SaysRefused (asked «rules») bytes (Explained «rules» (W.gone_out output.old) (W.gone_out output.new))) }
-    ensures failed { result ≡ None → LeavesSome «rules» (R.to_come input) (W.has_failed output.new) (W.gone_out output.old) (W.gone_out output.new) }
+    ensures yes { result ≡ Some true → IfSome (R.to_come input) (IsYes (asked rules.now)) }
+    ensures no { result ≡ Some false → IfSome (R.to_come input) (IsNo (asked rules.now)) }
+    ensures printed { result ≡ Some true → IfSome (R.to_come input) (λ bytes. EachListPrints (asked rules.now) bytes (Appends (W.gone_out output.old) (W.gone_out output.new))) }
+    ensures said { result ≡ Some false → IfSome (R.to_come input) (λ bytes. SaysRefused (asked rules.now) bytes (Explained rules.now bytes (W.gone_out output.old) (W.gone_out output.new))) }
+    ensures failed { result ≡ None → LeavesSome rules.now (R.to_come input) (W.has_failed output.new) (W.gone_out output.old) (W.gone_out output.new) }
     ensures why { result ≡ None → TellsWhy (W.has_failed output.new) (E.has_failed faults.new) (E.gone_out faults.old) (E.gone_out faults.new) }
     ensures quiet { result ≢ None → faults.new ≡ faults.old }
     ensures unbroken { result ≢ None → W.has_failed output.new ≡ W.has_failed output.old }

@@ -4,14 +4,14 @@ use Rattle.uses_commands.proofs.ExplainLemmas.{not_told}
 use Rattle.uses_commands.proofs.explains.explained.Goals as goal
 
 pub returns-clause-yes : goal.returns-clause-yes
-returns-clause-yes g c h = yes_accepted (asked c.args.rules) _ _ _ (c.explain.ensures.accepted (c.said_of.ensures.yes h))
+returns-clause-yes g c h = yes_accepted (asked c.args.rules.now) _ _ _ (c.explain.ensures.accepted (c.said_of.ensures.yes h))
 
 pub returns-clause-no : goal.returns-clause-no
-returns-clause-no g c h = said_no (asked c.args.rules) _ _ (c.explain.ensures.refused (c.said_of.ensures.no h))
+returns-clause-no g c h = said_no (asked c.args.rules.now) _ _ (c.explain.ensures.refused (c.said_of.ensures.no h))
 
 pub returns-clause-printed : goal.returns-clause-printed
 returns-clause-printed g c h =
-    text_accepted c.one_reading.ensures (asked c.args.rules) _ _ _ (c.explain.ensures.accepted (c.said_of.ensures.yes h))
+    text_accepted c.one_reading.ensures (asked c.args.rules.now) _ _ _ (c.explain.ensures.accepted (c.said_of.ensures.yes h))
 
 pub returns-clause-said : goal.returns-clause-said
 returns-clause-said g c h = c.explain.ensures.refused (c.said_of.ensures.no h)
