@@ -1,13 +1,12 @@
 //! Finds the nodes, owners and checked names of a stream, token by token.
-ghost use Rattle.std.specs.Prelude.{◌≡◌, ◌+◌, ◌<◌, ◌≤◌, ◌^◌, true, false, length, OnOk};
+ghost use Rattle.std.specs.Prelude.{◌≡◌, ◌<◌, ◌≤◌, true, false, length, OnOk};
 ghost use Rattle.jser_reading.specs.TokenBytes.{bytes_of, tag_byte};
 ghost use Rattle.jser_reading.specs.Labels.{StreamToken, Tag};
 ghost use Rattle.jser_shown.specs.Finding.{begin_finding, begun_by, find, finished, make_begun, take_token, take_name};
 ghost use Rattle.jser_shown.specs.Nodes.{place_after};
 ghost use Rattle.jser_printer.specs.Given.{IsOf, view_nodes};
 ghost use Rattle.jser_index.specs.Along.{Ends, IsLength, PartIs};
-ghost use Rattle.jser_index.specs.Surveying.{AddsString, IsPlain, IsQuiet, GoesPastWhole};
-ghost use Rattle.jser_index.specs.Listed.{all_lists};
+ghost use Rattle.jser_index.specs.Surveying.{IsPlain, IsQuiet};
 
 use crate::begun::{Begun, elements_made, is_owner, kind_begun};
 use crate::decode::decode;
@@ -16,13 +15,13 @@ use crate::nodes::Nodes;
 use crate::owners::Owners;
 use crate::part::{Part, part_of};
 use crate::texts::Texts;
-use jser_grammar::wire::{
-    TC_BLOCKDATA, TC_BLOCKDATALONG, TC_ENDBLOCKDATA, TC_REFERENCE, TC_RESET, TC_STRING,
-};
+use jser_grammar::wire::{TC_BLOCKDATA, TC_BLOCKDATALONG, TC_ENDBLOCKDATA, TC_RESET};
 use jser_printer::{OwnerNode, Token};
-use jser_reader::{Item, Whole};
+use jser_reader::Item;
 use std::alloc::{AllocError, Global};
 use std::marker::Model;
+
+mod wholes;
 
 /// What was found so far.
 ///
@@ -276,114 +275,6 @@ impl Survey {
             Item::TextLength(length) if length > 0 => Ok(()),
             item => self.rare(item, units, assigned, end),
         }
-    }
-
-    /// Goes past a value that is lent at once, and ends at this place of the stream; before it so many handles of the epoch
-    /// were assigned. `units` is room for those of a text.
-    #[inline(always)]
-    pub(crate) fn whole(
-        &mut self,
-        whole: Whole<'_>,
-        units: &mut Vec<u16>,
-        assigned: usize,
-        end: u64,
-    ) -> Result<(), AllocError>
-        requires { assigned < 2 ^ 32 }
-        ensures { OnOk result (GoesPastWhole whole.entry assigned end self.old self.new) }
-    {
-        match whole {
-            Whole::Reference(handle) => self.reference(handle, assigned, end),
-            Whole::String(text) => self.string(text, units, assigned, end),
-            Whole::Owner { tag, class } => self.owner(tag, class, assigned, end),
-        }
-    }
-
-    /// Goes past a reference.
-    #[tactic(auto, using(crate::proofs::ReferenceLemmas::reference_unmade))]
-    #[inline(always)]
-    fn reference(&mut self, handle: u32, assigned: usize, end: u64) -> Result<(), AllocError>
-        ensures { OnOk result (GoesPastWhole (Whole.Reference handle) assigned end self.old self.new) }
-    {
-        if self.is_due(assigned) {
-            return self.reference_due(handle, assigned, end);
-        }
-        self.is_name = true;
-        self.place = end;
-        Ok(())
-    }
-
-    /// Goes past the tag and the handle of a reference, one after the other.
-    #[tactic(auto, using(crate::proofs::WholeLemmas::past_reference))]
-    #[inline(never)]
-    fn reference_due(&mut self, handle: u32, assigned: usize, end: u64) -> Result<(), AllocError>
-        ensures { OnOk result (GoesPastWhole (Whole.Reference handle) assigned end self.old self.new) }
-    {
-        let _ = handle;
-        self.tag(TC_REFERENCE, assigned, end.saturating_sub(4))?;
-        self.pass(assigned, end)
-    }
-
-    /// Goes past the tag of what has a class, and the reference that is its class.
-    #[tactic(auto, using(crate::proofs::WholeLemmas::past_owner))]
-    #[inline(always)]
-    fn owner(&mut self, tag: u8, class: u32, assigned: usize, end: u64) -> Result<(), AllocError>
-        ensures { OnOk result (GoesPastWhole (Whole.Owner tag class) assigned end self.old self.new) }
-    {
-        self.tag(tag, assigned, end.saturating_sub(5))?;
-        self.reference(class, assigned, end)
-    }
-
-    /// Goes past a string. Its node is made at its text, so it is made at once, and no tag has to wait for it.
-    #[inline(always)]
-    fn string(
-        &mut self,
-        text: &[u8],
-        units: &mut Vec<u16>,
-        assigned: usize,
-        end: u64,
-    ) -> Result<(), AllocError>
-        requires { assigned < 2 ^ 32 }
-        ensures { OnOk result (GoesPastWhole (Whole.String text.entry) assigned end self.old self.new) }
-    {
-        if self.nodes.count() > assigned {
-            return self.string_ahead(text, units, assigned, end);
-        }
-        if self.is_due(assigned) {
-            self.make_plain()?;
-        }
-        self.add_string(text, units, end)
-    }
-
-    /// Makes the node of a string whose tag comes next, and which ends at this place of the stream.
-    #[inline(always)]
-    fn add_string(&mut self, text: &[u8], units: &mut Vec<u16>, end: u64) -> Result<(), AllocError>
-        ensures { OnOk result (AddsString text.now end self.old self.new) }
-    {
-        self.nodes.push_string(text, units, self.place)?;
-        self.is_name = true;
-        self.place = end;
-        Ok(())
-    }
-
-    /// Goes past the tag and the text of a string, one after the other.
-    #[cold]
-    #[inline(never)]
-    fn string_ahead(
-        &mut self,
-        text: &[u8],
-        units: &mut Vec<u16>,
-        assigned: usize,
-        end: u64,
-    ) -> Result<(), AllocError>
-        requires { assigned < 2 ^ 32 }
-        ensures { OnOk result (GoesPastWhole (Whole.String text.entry) assigned end self.old self.new) }
-    {
-        self.tag(
-            TC_STRING,
-            assigned,
-            end.saturating_sub(text.len() as u64 + 2),
-        )?;
-        self.text(text, units, assigned + 1, end)
     }
 
     /// The end of the stream: the last node is made, if it is not.

@@ -301,7 +301,7 @@ fn parent_in(handles: &Handles, parent: Option<usize>) -> Option<Parent>
     })
 }
 
-/// Its handle.
+/// The handle of a parent, if there is one.
 fn handle_of(parent: Option<Parent>) -> Option<u32>
     ensures { result ≡ handle_of parent }
 {

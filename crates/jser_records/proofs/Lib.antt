@@ -5,6 +5,7 @@ pub mod HeldLemmas
 pub mod InputLemmas
 pub mod JudgeLemmas
 pub mod KeyLemmas
+pub mod LineEndLemmas
 pub mod LineLemmas
 pub mod LossLemmas
 pub mod PlaceLemmas

@@ -34,7 +34,8 @@ use Rattle.jser_records.proofs.HeldLemmas.{holds_both, holds_none}
 use Rattle.jser_records.proofs.KeyLemmas.{told_key}
 use Rattle.jser_records.proofs.RecordLemmas.{handed, part_said}
 use Rattle.jser_records.proofs.RoomLemmas.{ahead_over, all_passed, took_both, took_first}
-use Rattle.jser_records.proofs.StretchLemmas.{apart_all, apart_on, apart_piece, counted_bare, goes_later, goes_on, line_named, none_ends, piece_held, some_before, some_left}
+use Rattle.jser_records.proofs.LineEndLemmas.{apart_all, apart_on, apart_piece, counted_bare, goes_later, goes_on, line_named, none_ends, some_before, some_left}
+use Rattle.jser_records.proofs.StretchLemmas.{piece_held}
 
 -- the bytes before the first line end, and that
 pub with_end : (end : ℕ) (waiting : List ℕ) (count : ℕ) → IsBefore end waiting count → take (count + 1) waiting ≡ take count waiting ++ (end ∷ [])

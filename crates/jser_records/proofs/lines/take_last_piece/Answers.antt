@@ -1,5 +1,6 @@
 use Rattle.std.proofs.Common.{◌++◌}
-use Rattle.jser_records.proofs.StretchLemmas.{apart_bare, stretch_held, stretch_named}
+use Rattle.jser_records.proofs.LineEndLemmas.{apart_bare, stretch_named}
+use Rattle.jser_records.proofs.StretchLemmas.{stretch_held}
 use Rattle.jser_records.proofs.lines.take_last_piece.Goals as goal
 
 pub returns-clause-held : goal.returns-clause-held
