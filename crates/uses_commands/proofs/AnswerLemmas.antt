@@ -53,10 +53,11 @@ none_anywhere filter options bytes Went (inl refused) = λ a. refused.refused.ri
 none_anywhere filter options bytes Went (inr hidden) = λ a.
     hidden.hidden.begins (drop hidden.to bytes) (subst (λ (xs : List ℕ). AreAdmittedAnywhere filter options xs) (sym (take-append-drop hidden.to bytes)) a)
 
-pub said_no : (the_job : Job) (told : Option (List ℕ)) (Went : List ℕ → Type 0) → IfSome told (λ bytes. SaysRefused the_job bytes Went) → IfSome told (IsNo the_job)
+-- what went out may be told of the bytes too
+pub said_no : (the_job : Job) (told : Option (List ℕ)) (Went : (bytes : List ℕ) → List ℕ → Type 0) → IfSome told (λ bytes. SaysRefused the_job bytes (Went bytes)) → IfSome told (IsNo the_job)
 said_no the_job None Went says = tt
 said_no (job.Check filter strict) (Some bytes) Went says = says.refused.none
-said_no (job.CheckAnywhere filter strict) (Some bytes) Went says = none_anywhere filter (options_of strict) bytes Went says
+said_no (job.CheckAnywhere filter strict) (Some bytes) Went says = none_anywhere filter (options_of strict) bytes (Went bytes) says
 said_no (job.Show values) (Some bytes) Went says = tt
 said_no (job.ShowLimited values limit) (Some bytes) Went says = tt
 said_no (job.List filter) (Some bytes) Went says = tt

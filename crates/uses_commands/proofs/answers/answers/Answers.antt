@@ -1,3 +1,4 @@
+use Rattle.std.specs.Io.KnownBytes.{Appends}
 use Rattle.uses_commands.proofs.AnswerLemmas.{said_yes, said_no, said_text, three, prints_nothing}
 use Rattle.uses_commands.proofs.answers.answers.Goals as goal
 
@@ -5,7 +6,8 @@ pub returns-clause-yes : goal.returns-clause-yes
 returns-clause-yes g c h = said_yes c.args.job.now c.run.result _ _ _ c.run.ensures.accepted c.run.ensures.cut (c.answer_of.ensures.yes h)
 
 pub returns-clause-no : goal.returns-clause-no
-returns-clause-no g c h = said_no c.args.job.now _ _ (c.run.ensures.refused (c.answer_of.ensures.no h))
+returns-clause-no g c h =
+    said_no c.args.job.now _ (λ bytes. Appends (g.W.Sink.gone_out c.args.output.now) (g.W.Sink.gone_out c.run.new.output)) (c.run.ensures.refused (c.answer_of.ensures.no h))
 
 pub returns-clause-printed : goal.returns-clause-printed
 returns-clause-printed g c h =

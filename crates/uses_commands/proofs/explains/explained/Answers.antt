@@ -1,4 +1,4 @@
-use Rattle.jser_explain.specs.Explains.{asked}
+use Rattle.jser_explain.specs.Explains.{asked, Explained}
 use Rattle.uses_commands.proofs.AnswerLemmas.{yes_accepted, said_no, text_accepted}
 use Rattle.uses_commands.proofs.ExplainLemmas.{not_told}
 use Rattle.uses_commands.proofs.explains.explained.Goals as goal
@@ -7,7 +7,9 @@ pub returns-clause-yes : goal.returns-clause-yes
 returns-clause-yes g c h = yes_accepted (asked c.args.rules.now) _ _ _ (c.explain.ensures.accepted (c.said_of.ensures.yes h))
 
 pub returns-clause-no : goal.returns-clause-no
-returns-clause-no g c h = said_no (asked c.args.rules.now) _ _ (c.explain.ensures.refused (c.said_of.ensures.no h))
+returns-clause-no g c h =
+    said_no (asked c.args.rules.now) _ (λ bytes. Explained c.args.rules.now bytes (g.W.Sink.gone_out c.args.output.now) (g.W.Sink.gone_out c.explain.new.output))
+    (c.explain.ensures.refused (c.said_of.ensures.no h))
 
 pub returns-clause-printed : goal.returns-clause-printed
 returns-clause-printed g c h =
