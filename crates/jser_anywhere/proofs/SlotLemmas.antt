@@ -100,9 +100,6 @@ pub record Split (x : ℕ) (xs : List ℕ) (y : ℕ) (ys : List ℕ) : Type 0 wh
   pub same : x ≡ y
   pub rest : xs ≡ ys
 
-pub split_cons : (x : ℕ) (xs : List ℕ) (y : ℕ) (ys : List ℕ) → x ∷ xs ≡ y ∷ ys → Split x xs y ys
-split_cons x xs y ys e = record { same = cc; rest = cc }
-
 -- ---- what is known of the last bytes, by what a slot has
 
 -- the last byte is one of the name, or it is the second of its length

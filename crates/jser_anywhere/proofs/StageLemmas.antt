@@ -118,10 +118,6 @@ whole_end (passing place.First) = refl
 whole_end (passing (place.Middle high)) = refl
 whole_end (passing (place.Last high)) = refl
 
--- with a byte more
-none_behind : (units : List ℕ) → core_in (behind units None) ≡ None
-none_behind units = refl
-
 step_named : (units : List ℕ) (bytes : List ℕ) (t : Taken) → core_in (behind units (loose_step (row_from bytes) t)) ≡ named_read (name_taken units t) bytes
 step_named units bytes (taken.Unit unit) = step_unit units unit (row_from bytes place.First)
   where

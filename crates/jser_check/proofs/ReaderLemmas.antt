@@ -2,12 +2,9 @@
 use Rattle.std.specs.Prelude.{IfOk, IfErr, IfSome}
 use Rattle.std.specs.Io.KnownBytes.{Consumes, IsAtEnd}
 use Rattle.std.specs.declared.option.Option.{Option}
-use Rattle.std.proofs.Common.{◌≡◌, ◌≢◌, ℕ, ◌+◌, ◌≤◌, List, [], ◌++◌, length, take, drop, Result, Ok, Err, Some, None, inl, inr, refl, sym, ap, subst, ◌∙◌, arith, append_assoc, append-nil, length-append, take-append-drop}
+use Rattle.std.proofs.Common.{◌≡◌, ◌≢◌, ℕ, ◌+◌, List, [], ◌++◌, take, drop, Result, Ok, Err, Some, None, inl, refl, sym, ap, subst, ◌∙◌, arith, append_assoc, append-nil, length-append, take-append-drop}
 use Rattle.jser_grammar.specs.Parts.{IsBytes}
-use Rattle.jser_verdict.specs.Reasons.{truncated}
-use Rattle.jser_verdict.specs.Reasons.{Reason as ToldReason}
 use Rattle.jser_verdict.specs.Gates.{Gate}
-use Rattle.jser_verdict.specs.FirstFault.{IsFault}
 use Rattle.jser_verdict.proofs.WalkFaults.{refuses_promptly}
 use Rattle.jser_reading.specs.Machine.{begin_state, left}
 use Rattle.jser_reader.specs.declared.Refusal.{Refusal}
@@ -17,17 +14,16 @@ use Rattle.jser_reader.specs.declared.Totals.{Totals}
 use Rattle.jser_reader.specs.declared.tally.Tally.{Tally}
 use Rattle.jser_reader.specs.Readers.{Seen}
 use Rattle.jser_reader.specs.ReaderStates.{Reading, StandsFor}
-use Rattle.jser_reader.specs.Streams.{AreRefused}
 use Rattle.jser_filter.specs.Filters.{FilterView}
 use Rattle.jser_check.specs.declared.answer.CheckFault.{CheckFault}
 use Rattle.jser_check.specs.declared.answer.CheckFault.TheVariants as fault
 use Rattle.jser_check.specs.declared.gate.Options.{Options}
 use Rattle.jser_grammar.specs.Caps.{most_bytes}
 use Rattle.jser_check.specs.Admitted.{FilterWith, gate_of_filter}
-use Rattle.jser_check.specs.Feeding.{RefusesIn, StopCases, EndTells}
+use Rattle.jser_check.specs.Feeding.{RefusesIn, EndTells}
 use Rattle.jser_reader.specs.Answers.{IsRightOf, Tells}
-use Rattle.jser_check.specs.Answers.{Reports, CarriesFirst, Refuses, DecideNothing, IfRefused}
-use Rattle.jser_check.specs.Sources.{read_bytes, TakesAtMost, Taken, Stopped, TakenAll, ReadsTell}
+use Rattle.jser_check.specs.Answers.{Reports, CarriesFirst, Refuses, DecideNothing}
+use Rattle.jser_check.specs.Sources.{read_bytes, Stopped, TakenAll, ReadsTell}
 use Rattle.jser_check.specs.SourceAnswers.{IfFaultRefused, Undecided, TakesFew, SourceTells}
 use Rattle.jser_reader.proofs.RefusalLemmas.{front_refused, right_first}
 use Rattle.jser_check.proofs.AnswerLemmas.{finish_tells, reports, right_refuses}
@@ -60,12 +56,6 @@ stopped_tells told gate old had has most total (stop.Refused refusal) same st s 
 stopped_tells told gate old had has most total stop.OutOfMemory same st s = tt
 stopped_tells told gate old had has most total stop.Spent same st s = s.stops [] (subst (λ g. StandsFor (told g) [] old.machine old.tally) (sym same) st)
 
-stopped_few : {G : Type 0} (told : G → Gate) (old : Reading G) (had has : Option (List ℕ)) (most total : ℕ) (why : Stop) → Stopped told old had has most total why
-    → TakesAtMost total had has
-stopped_few told old had has most total why s =
-    let a = s.all in
-    record { bytes = s.before ++ s.last; few = let n = length-append s.before s.last in omega arith; off = s.off }
-
 stopped_prompt : {G : Type 0} (told : G → Gate) (gate : G) (old : Reading G) (had has : Option (List ℕ)) (total : ℕ) (why : Stop) → old.gate ≡ gate
     → StandsFor (told gate) [] old.machine old.tally → Stopped told old had has read_bytes total why → TakesFew had has {X = Totals} (Err (fault.Stop why))
 stopped_prompt told gate old had has total (stop.Refused refusal) same st s = λ e.
@@ -95,24 +85,12 @@ failed_tells told gate old new had has same st t =
       none = stands_undecided (told gate) t.taken.bytes new.machine new.tally (subst (λ g. StandsFor (told g) t.taken.bytes new.machine new.tally) (t.taken.fed.same ∙ same) stands);
     }
 
-pub taken_few : {G : Type 0} (told : G → Gate) (old new : Reading G) (had has : Option (List ℕ)) → TakenAll told old new had has
-    → TakesAtMost (most_bytes + 1) had has
-taken_few told old new had has t =
-    let a = t.short in
-    let b = t.taken.size in
-    record { bytes = t.taken.bytes; few = omega arith; off = t.taken.off }
-
 -- ---- a fault of the reads
 
 pub fault_tells : {G : Type 0} (told : G → Gate) (gate : G) (old new : Reading G) (had has : Option (List ℕ)) (why : CheckFault) → old.gate ≡ gate
     → StandsFor (told gate) [] old.machine old.tally → ReadsTell told old new had has {X = Unit {0}} (Err why) → SourceTells (told gate) had has (Err why)
 fault_tells told gate old new had has (fault.Stop why) same st s = stopped_tells told gate old had has read_bytes (most_bytes + 1) why same st s
 fault_tells told gate old new had has fault.ReadFault same st t = failed_tells told gate old new had has same st t
-
-pub fault_few : {G : Type 0} (told : G → Gate) (old new : Reading G) (had has : Option (List ℕ)) (why : CheckFault)
-    → ReadsTell told old new had has {X = Unit {0}} (Err why) → TakesAtMost (most_bytes + 1) had has
-fault_few told old new had has (fault.Stop why) s = stopped_few told old had has read_bytes (most_bytes + 1) why s
-fault_few told old new had has fault.ReadFault t = taken_few told old new had has t
 
 pub fault_prompt : {G : Type 0} (told : G → Gate) (gate : G) (old new : Reading G) (had has : Option (List ℕ)) (why : CheckFault) → old.gate ≡ gate
     → StandsFor (told gate) [] old.machine old.tally → ReadsTell told old new had has {X = Unit {0}} (Err why) → TakesFew had has {X = Totals} (Err why)

@@ -2,13 +2,12 @@
 use Rattle.std.specs.Prelude.{IfSome}
 use Rattle.std.specs.Io.KnownBytes.{Consumes, Keeps, IsAtEnd}
 use Rattle.std.proofs.KnownBytes.{Consumes-nil, Consumes-trans, Consumes-kept}
-use Rattle.std.proofs.Common.{◌≡◌, ◌≢◌, ◌⊎◌, Bool, ℕ, ◌+◌, ◌≤◌, ◌<◌, ◌∙◌, List, [], ◌∷◌, ◌++◌, length, take, drop, Result, Ok, Err, Option, Some, None, inl, inr, refl, sym, ap, subst, arith, append_assoc, append-nil, length-append, length-take-le, take-append-drop}
+use Rattle.std.proofs.Common.{◌≡◌, ◌≢◌, ◌⊎◌, ℕ, ◌+◌, ◌≤◌, ◌<◌, ◌∙◌, List, [], ◌++◌, length, take, drop, Result, Ok, Err, Option, Some, None, inl, inr, refl, sym, ap, subst, arith, append_assoc, append-nil, length-append, length-take-le, take-append-drop}
 use Rattle.std.proofs.lemmas.Bool.{cases_lt}
 use Rattle.jser_grammar.specs.Caps.{most_bytes}
 use Rattle.jser_reading.specs.Labels.{Label}
 use Rattle.jser_reading.specs.TokenBytes.{joined}
-use Rattle.jser_verdict.specs.Reasons.{truncated}
-use Rattle.jser_verdict.specs.Reasons.{Reason as ToldReason}
+use Rattle.jser_verdict.specs.Reasons.{truncated, Reason as ToldReason}
 use Rattle.jser_verdict.specs.Gates.{Gate}
 use Rattle.jser_verdict.specs.FirstFault.{IsFault, OpenAt}
 use Rattle.jser_filter.specs.Filters.{FilterView}
@@ -28,7 +27,7 @@ use Rattle.jser_check_anywhere.specs.Passing.{passes_name}
 use Rattle.jser_check_anywhere.specs.declared.fault.AnywhereFault.{AnywhereFault}
 use Rattle.jser_check_anywhere.specs.declared.fault.AnywhereFault.TheVariants as fault
 use Rattle.jser_check_anywhere.specs.Answers.{ReportsAnywhere, NoneSooner, NoFaultBy, TellsHidden, TellsFault, Checking, HasTaken, EndTells}
-use Rattle.jser_check_anywhere.specs.SourceAnswers.{HiddenIn, RefusedIn, FaultOf, SourceTells, Undecided, TakesFew, Answered, FailsWith, Came, StopsIn, SomeTells, Stopped, CameAll, WholeTells}
+use Rattle.jser_check_anywhere.specs.SourceAnswers.{HiddenIn, RefusedIn, FaultOf, SourceTells, Undecided, TakesFew, Answered, Came, StopsIn, SomeTells, Stopped, CameAll, WholeTells}
 use Rattle.jser_check_anywhere.proofs.AnywhereLemmas.{never_admitted, few_taken, taken_undecided}
 
 -- ---- one read
@@ -63,9 +62,6 @@ some_stops filter options new taken buffer bytes had has count fault.ReadFault e
 some_stops filter options new taken buffer bytes had has count (fault.Hidden from to) e few off tells = stops_by filter options taken buffer bytes had has count (fault.Hidden from to) e few off tells
 
 -- ---- several
-
-pub came_none : (check : Checking) (had : Option (List ℕ)) → HasTaken check [] → Came check [] had had 0
-came_none check had h = record { bytes = []; size = refl; off = Consumes-nil had; all = h }
 
 pub came_more : (mid new : Checking) (had middle has : Option (List ℕ)) (n m : ℕ) → (c : Came mid [] had middle n) → Came new c.bytes middle has m → Came new [] had has (n + m)
 came_more mid new had middle has n m c d = record {
@@ -330,10 +326,3 @@ pub as_made : (filter : FilterView) (options : Options) (made : Checking) (had h
     → made.reader.gate.options ≡ options → Answered made.reader.gate.filter made.reader.gate.options had has result → Answered filter options had has result
 as_made filter options made had has result e f a =
     subst (λ (o : Options). Answered filter o had has result) f (subst (λ (x : FilterView). Answered x made.reader.gate.options had has result) e a)
-
--- a piece never answers that a read failed
-pub never_read : (filter : FilterView) (options : Options) (taken bytes : List ℕ) (why : AnywhereFault) (before after : Bool) → TellsFault filter options taken bytes why → after ≡ before
-    → FailsWith {X = ℕ} (Err why) before after
-never_read filter options taken bytes (fault.Stop why) before after t e = e
-never_read filter options taken bytes fault.ReadFault before after t e = absurd t
-never_read filter options taken bytes (fault.Hidden from to) before after t e = e

@@ -1,5 +1,5 @@
 -- Hidden names, and the places that were noted.
-use Rattle.std.proofs.Common.{◌≡◌, ℕ, suc, ◌+◌, ◌<◌, Bool, true, false, cond, if◌then◌else◌, ◌==◌, List, [], ◌∷◌, ◌++◌, length, take, slice_get, get_or, set, Option, Some, None, refl, sym, ap, subst, ◌∙◌, arith, eqb-true}
+use Rattle.std.proofs.Common.{◌≡◌, ℕ, suc, ◌+◌, ◌<◌, Bool, true, false, cond, if◌then◌else◌, ◌==◌, List, [], ◌∷◌, ◌++◌, length, get_or, set, Option, Some, None, refl, sym, ap, subst, ◌∙◌, arith, eqb-true}
 use Rattle.std.specs.Prelude.{codes, not}
 use Rattle.std.specs.Option.{is_some, option_map}
 use Rattle.std.proofs.lemmas.Cmp.{nat_list_eq_equiv}
@@ -73,11 +73,6 @@ gathers_none checked hidden all left noted is none keeps = record {
   so = ap (λ ts. tally_all ts (hidden_of checked (once_each [] left))) none ∙ ap (λ names. tally_all [] (hidden_of checked (once_each [] names))) is;
 }
 
-pub gathered_all : (checked : List (List ℕ)) (all left : List Named) (noted : List Bool) (hidden : List NameTally) → Gathers checked all left noted hidden → left ≡ []
-    → hidden ≡ tally_all [] (hidden_of checked (once_each [] all))
-gathered_all checked all left noted hidden g none =
-    sym (ap (λ names. tally_all hidden (hidden_of checked (once_each g.seen names))) none) ∙ g.so
-
 differs : (m n : ℕ) → (m == n) ≡ false → m ≡ n → ⊥
 differs m n e same = grind (arith, nat_tests, e, same)
 
@@ -95,34 +90,6 @@ keeps_more noted seen at inside keeps = record {
       noted_here noted at other (other == at) refl inside there ∙ ap (λ b. if other == at then true else b) (keeps.keeps other there);
 }
 
-keeps_same : (noted : List Bool) (seen : List ℕ) (at : ℕ) → at < length noted → has_place at seen ≡ true → KeepsPlaces noted seen → KeepsPlaces (set noted at true) seen
-keeps_same noted seen at inside has keeps = record {
-  keeps = λ other there.
-      let there : other < length noted = omega (arith, there, length-set noted at true) in
-      noted_here noted at other (other == at) refl inside there ∙ by other (other == at) refl there;
-}
-  where
-    by : (other : ℕ) (b : Bool) → (other == at) ≡ b → other < length noted → (if b then true else get_or noted other false) ≡ has_place other seen
-    by other true e there = sym (ap (λ n. has_place n seen) (eqb-true other at e) ∙ has)
-    by other false e there = keeps.keeps other there
-
--- a name whose place was noted before
-pub gathers_same : (checked : List (List ℕ)) (all left rest : List Named) (name : Named) (noted new : List Bool) (hidden : List NameTally) (is_new : Bool)
-    → Gathers checked all left noted hidden → left ≡ name ∷ rest → name.at < length noted → NotesPlace name.at noted new is_new → is_new ≡ false
-    → Gathers checked all rest new hidden
-gathers_same checked all left rest name noted new hidden is_new g next inside notes old =
-    let has : has_place name.at g.seen ≡ true = sym (g.keeps.keeps name.at inside) ∙ not_false (get_or noted name.at false) (sym notes.is ∙ old) in
-    record {
-      seen = g.seen;
-      keeps = subst (λ n. KeepsPlaces n g.seen) (sym notes.noted) (keeps_same noted g.seen name.at inside has g.keeps);
-      so = ap (λ b. tally_all hidden (hidden_of checked (if b then once_each g.seen rest else name ∷ once_each (name.at ∷ g.seen) rest))) (sym has)
-          ∙ sym (ap (λ names. tally_all hidden (hidden_of checked (once_each g.seen names))) next) ∙ g.so;
-    }
-  where
-    not_false : (b : Bool) → not b ≡ false → b ≡ true
-    not_false true e = refl
-    not_false false e = absurd (let no : true ≡ false = e in cc)
-
 -- one whose place was not
 new_step : (checked : List (List ℕ)) (all left rest : List Named) (name : Named) (noted new : List Bool) (hidden : List NameTally) (is_new : Bool)
     → (g : Gathers checked all left noted hidden) → left ≡ name ∷ rest → name.at < length noted → NotesPlace name.at noted new is_new → is_new ≡ true
@@ -136,16 +103,6 @@ new_step checked all left rest name noted new hidden is_new g next inside notes 
     not_true false e = refl
     not_true true e = absurd (let no : false ≡ true = e in cc)
 
-pub gathers_over : (checked : List (List ℕ)) (all left rest : List Named) (name : Named) (noted new : List Bool) (hidden : List NameTally) (is_new : Bool)
-    → Gathers checked all left noted hidden → left ≡ name ∷ rest → name.at < length noted → NotesPlace name.at noted new is_new → is_new ≡ true
-    → is_hidden checked name.text name.units ≡ false → Gathers checked all rest new hidden
-gathers_over checked all left rest name noted new hidden is_new g next inside notes is plain = record {
-  seen = name.at ∷ g.seen;
-  keeps = subst (λ n. KeepsPlaces n (name.at ∷ g.seen)) (sym notes.noted) (keeps_more noted g.seen name.at inside g.keeps);
-  so = ap (λ b. tally_all hidden (if b then name.units ∷ hidden_of checked (once_each (name.at ∷ g.seen) rest) else hidden_of checked (once_each (name.at ∷ g.seen) rest))) (sym plain)
-      ∙ new_step checked all left rest name noted new hidden is_new g next inside notes is;
-}
-
 pub gathers_more : (checked : List (List ℕ)) (all left rest : List Named) (name : Named) (noted new : List Bool) (hidden more : List NameTally) (is_new : Bool)
     → Gathers checked all left noted hidden → left ≡ name ∷ rest → name.at < length noted → NotesPlace name.at noted new is_new → is_new ≡ true
     → (text asked put : List ℕ) → text ≡ name.text → asked ≡ name.units → put ≡ name.units → is_hidden checked text asked ≡ true → more ≡ tally_one put hidden → Gathers checked all rest new more
@@ -156,9 +113,6 @@ gathers_more checked all left rest name noted new hidden more is_new g next insi
       ∙ ap (λ b. tally_all hidden (if b then name.units ∷ hidden_of checked (once_each (name.at ∷ g.seen) rest) else hidden_of checked (once_each (name.at ∷ g.seen) rest))) (sym (sym (ap (λ (x : List ℕ). is_hidden checked x asked) its_text ∙ ap (λ (x : List ℕ). is_hidden checked name.text x) its_units) ∙ hides))
       ∙ new_step checked all left rest name noted new hidden is_new g next inside notes is;
 }
-
-pub fewer_left : (left rest : List Named) (name : Named) → left ≡ name ∷ rest → length rest < length left
-fewer_left left rest name is = omega (arith, ap length is)
 
 -- ---- the names that were counted
 

@@ -1,10 +1,9 @@
 -- What `show --limit N` printed.
-use Rattle.std.proofs.Common.{◌≡◌, ℕ, ◌≤◌, ◌<◌, Bool, true, false, List, [], ◌++◌, length, take, drop, Option, Some, None, sym, ap, subst, ◌∙◌, arith, inl, inr}
-use Rattle.std.proofs.lemmas.List.{append-nil, take-append-le, take-append-drop}
+use Rattle.std.proofs.Common.{◌≡◌, ℕ, ◌≤◌, Bool, true, false, List, [], ◌++◌, length, take, drop, Option, Some, None, sym, ap, subst, ◌∙◌, inl, inr}
+use Rattle.std.proofs.lemmas.List.{append-nil, take-append-drop}
 use Rattle.std.specs.Global.{Global}
 use Rattle.std.specs.Prelude.{◌⊎◌, IfSome, Vec}
 use Rattle.std.specs.Io.KnownBytes.{Appends, Keeps}
-use Rattle.jser_prim.specs.Fronts.{CutAt}
 use Rattle.jser_grammar.specs.Trees.{ContentTrees}
 use Rattle.jser_shown.specs.Shown.{shown}
 use Rattle.jser_index.specs.declared.GraphFault.{GraphFault}
@@ -13,7 +12,7 @@ use Rattle.jser_index.specs.Showing.{WroteText, WroteFront}
 use Rattle.jser_commands.specs.declared.limited.Limited.TheVariants as limited
 use Rattle.jser_commands.specs.declared.start.Start.{Start}
 use Rattle.jser_commands.specs.Limits.{BeginsText, IsFrontOf, IsLimitedText, WentCut, WentWithin, WroteCut, WroteSomeLimited, WroteWithin}
-use Rattle.jser_commands.specs.Lines.{cut_line, AppendsSome, CutText, KeptOrCut, KeptOrSaidSome, SaysCutShown, SaysLimited, SaysRefusal, SaysWithin}
+use Rattle.jser_commands.specs.Lines.{AppendsSome, CutText, KeptOrCut, KeptOrSaidSome, SaysCutShown, SaysLimited, SaysRefusal, SaysWithin}
 
 -- ---- the first bytes of a text
 
@@ -60,13 +59,6 @@ unfolding IsFrontOf IsLimitedText
 is_cut limit values graph start text front cut bytes list stands =
     let begins = front bytes list stands in
     subst (λ all. CutText limit all text.items) (sym begins.begins) (cut begins.rest)
-
-pub cut_text : (limit count : ℕ) (bytes text : List ℕ) → limit < length bytes → ((rest : List ℕ) → CutAt limit count (bytes ++ rest))
-    → text ≡ take count bytes ++ cut_line limit → (rest : List ℕ) → CutText limit (bytes ++ rest) text
-cut_text limit count bytes text long cut is rest =
-    let at = cut rest in
-    let same : take count (bytes ++ rest) ≡ take count bytes = take-append-le count bytes rest (omega (arith, long, at.within)) in
-    record { count = count; cut = at; is = is ∙ ap (λ xs. xs ++ cut_line limit) (sym same) }
 
 -- ---- what went out
 

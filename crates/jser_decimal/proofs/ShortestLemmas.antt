@@ -17,10 +17,6 @@ fewest_found range zero step steps is found =
 fewest_found range (suc more) step steps is found =
     ap (λ s. steps * s) is ∙ sym (ap (λ o. or_else (10 ^ suc more) o (fewest range more)) (subst (λ s. best range s ≡ Some steps) is found))
 
-pub fewest_last : (range : Range) (more step : ℕ) → more ≡ 0 → step ≡ 10 ^ more → best range step ≡ None → range.middle / range.unit ≡ fewest range more
-fewest_last range zero step none is found = sym (ap (λ o. or_else 1 o (range.middle / range.unit)) (subst (λ s. best range s ≡ None) is found))
-fewest_last range (suc more) step none is found = omega (arith, none)
-
 pub fewest_next : (range : Range) (more step : ℕ) → 0 < more → step ≡ 10 ^ more → best range step ≡ None → fewest range (more - 1) ≡ fewest range more
 fewest_next range zero step some is found = omega (arith, some)
 fewest_next range (suc more) step some is found =

@@ -1,8 +1,7 @@
 -- Filters: reading a text piece by piece, and what the kept pieces say.
 use denote.Bor.{Bor}
-use Rattle.std.proofs.Common.{◌≡◌, ℕ, ◌+◌, ◌<◌, false, List, [], ◌∷◌, ◌++◌, length, map, take, get_or, slice_get, ◌==◌, Option, Some, None, refl, ap, sym, ◌∙◌, subst, arith, append_assoc, length-append}
+use Rattle.std.proofs.Common.{◌≡◌, ℕ, ◌+◌, ◌<◌, false, List, [], ◌∷◌, ◌++◌, length, map, take, get_or, slice_get, ◌==◌, Option, Some, None, refl, ap, sym, ◌∙◌, subst, arith, length-append}
 use Rattle.std.specs.List.{list_any}
-use Rattle.std.proofs.lemmas.List.Folds.{list_any-append}
 use Rattle.std.proofs.lemmas.List.{take_at, length-map, map_more}
 use Rattle.jser_filter.specs.declared.fault.FilterFault.{FilterFault}
 use Rattle.jser_filter.specs.declared.fault.FilterCause.TheVariants as cause
@@ -40,16 +39,6 @@ view_piece_sound (kept.Pattern pattern) = refl
 pub record HasRead (whole old : List Piece) (rest : Option (Bor (List ℕ))) : Type 0 where
   pub are : old ++ left_pieces rest ≡ whole
   pub sound : AreSound old
-
-pub piece_read : (whole old new : List Piece) (text part : Bor (List ℕ)) (rest : Option (Bor (List ℕ))) → HasRead whole old (Some text) → split_at_each 0x3B text.now ≡ split_with 0x3B (part, rest) → new ≡ old ++ read_piece part.now ∷ [] → is_faulty (read_piece part.now) ≡ false → HasRead whole new rest
-piece_read whole old new text part rest read split added sound = record {
-  are =
-      ap (λ front. front ++ left_pieces rest) added
-      ∙ append_assoc old (read_piece part.now ∷ []) (left_pieces rest)
-      ∙ ap (λ back. old ++ back) (sym (left_after text.now part rest split))
-      ∙ read.are;
-  sound = ap (list_any is_faulty) added ∙ list_any-append is_faulty old (read_piece part.now ∷ []) ∙ rw (read.sound, sound) refl;
-}
 
 slice_get-at : (front : List Piece) (piece : Piece) (back : List Piece) → slice_get (front ++ piece ∷ back) (length front) ≡ Some piece
 slice_get-at [] piece back = refl

@@ -28,10 +28,6 @@ least_comm (Some a) (Some b) = either a b (nat_lt b a) (nat_lt a b) refl refl
     either : (a b : ℕ) (p q : Bool) → nat_lt b a ≡ p → nat_lt a b ≡ q → least (Some a) (Some b) ≡ least (Some b) (Some a)
     either a b p q is other = grind (arith)
 
--- a place that comes last of three may come second
-pub least_swap : (a b c : Option ℕ) → least a (least b c) ≡ least (least a b) c
-least_swap a b c = sym (least_assoc a b c)
-
 same_some : (a b : ℕ) → Some a ≡ Some b → a ≡ b
 same_some a b e = cc
 
@@ -85,9 +81,6 @@ longer xs y ys e = nil_cons y ys (append_cancel_left xs [] (y ∷ ys) (append-ni
 
 heads : (x y : ℕ) (xs ys : List ℕ) → x ∷ xs ≡ y ∷ ys → x ≡ y
 heads x y xs ys e = cc
-
-apart_test : (wanted letter : ℕ) → (wanted == letter) ≡ false → wanted ≡ letter → ⊥
-apart_test wanted letter is same = eqb-false wanted letter is same
 
 -- the place of a mark at the end of a word is found along all that the word begins
 module _ (edge : Edges) (mark mark' : Marks) (count at place : ℕ) (tree : IsTree edge count)

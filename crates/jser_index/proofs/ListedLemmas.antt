@@ -167,11 +167,6 @@ open_lies from (end ∷ ends) items h =
     let a = start_after end ends (from + length items) (length ends) h.1 in
     open_lies end ends (drop (end - from) items) (ends_after from end ends items h.0 h.1) ∙ drops from end (start_of end ends (length ends)) items h.0 a
 
-no_list : {T : Type 0} (from : ℕ) (ends : List ℕ) (items : List T) (k : ℕ) → slice_get ends k ≡ None → slice_get (ended_of from ends items) k ≡ None
-no_list from [] items k e = refl
-no_list from (end ∷ ends) items zero e = absurd (none_some (sym e))
-no_list from (end ∷ ends) items (suc k) e = no_list end ends (drop (end - from) items) k e
-
 start_after_one : (from : ℕ) (ends : List ℕ) (k : ℕ) → k < length ends → slice_index_or ends k 0 ≡ start_of from ends (suc k)
 start_after_one from [] k less = absurd (omega arith)
 start_after_one from (end ∷ ends) zero less = refl

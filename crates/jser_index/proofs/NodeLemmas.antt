@@ -1,6 +1,6 @@
 -- The nodes of an epoch, by their numbers.
 use denote.Bor.{Bor}
-use Rattle.std.proofs.Common.{◌≡◌, ℕ, zero, suc, List, [], ◌∷◌, ◌++◌, length, map, slice_get, Option, Some, None, option_map, refl, sym, ◌∙◌, ap, subst}
+use Rattle.std.proofs.Common.{◌≡◌, ℕ, zero, suc, List, [], ◌∷◌, ◌++◌, length, map, slice_get, Option, Some, option_map, refl, sym, ◌∙◌, ap, subst}
 use Rattle.jser_index.specs.declared.node.Node.{Node}
 use Rattle.jser_index.specs.declared.node.StoredNode.{StoredNode}
 use Rattle.jser_index.specs.declared.spot.Spot.{Spot}
@@ -41,9 +41,6 @@ last_list lists epoch number e =
 pub other_list : (lists : Listed StoredNode) (epoch number : ℕ) → (epoch ≡ length lists.ended → ⊥)
     → in_list (slice_get lists.ended epoch) number ≡ stored_in lists epoch number
 other_list lists epoch number other = sym (ap (λ l. in_list l number) (before_last lists.ended lists.last epoch other))
-
-none_stored : {A B : Type 0} (f : A → B) (o : Option A) → o ≡ None → option_map f o ≡ None
-none_stored f o e = ap (option_map f) e
 
 -- what was found is told
 

@@ -1,6 +1,6 @@
 -- The text of show, said token by token along the bytes.
-use Rattle.std.proofs.Common.{◌≡◌, ℕ, Bool, true, Option, List, [], ◌∷◌, ◌++◌, length, Result, Ok, Err, OnOk, OnErr, refl, sym, ◌∙◌, ap, subst, append_assoc, append-nil}
-use Rattle.jser_prim.specs.Outgoing.{Outgoing, SinkState, Puts, sink_state}
+use Rattle.std.proofs.Common.{◌≡◌, ℕ, Bool, true, List, [], ◌∷◌, ◌++◌, length, Result, Ok, Err, OnOk, OnErr, refl, sym, ◌∙◌, ap, subst, append_assoc, append-nil}
+use Rattle.jser_prim.specs.Outgoing.{Outgoing, SinkState, Puts}
 use Rattle.jser_prim.proofs.OutgoingLemmas.{puts_both, puts_stopped}
 use Rattle.jser_grammar.specs.Trees.{ContentTrees}
 use Rattle.jser_reading.specs.Labels.{StreamToken, Label, Piece, piece}
@@ -17,7 +17,7 @@ use Rattle.jser_reader.specs.Gates.{open_gate}
 use Rattle.jser_reader.specs.declared.tally.Tally.{Tally}
 use Rattle.jser_reader.specs.Readers.{Seen}
 use Rattle.jser_printer.specs.Passing.{says_next}
-use Rattle.jser_printer.specs.Says.{Says, Begins, BeginsTo}
+use Rattle.jser_printer.specs.Says.{Says, Begins}
 use Rattle.jser_printer.proofs.SaysLemmas.{says_none, says_both, says_same}
 use Rattle.jser_index.specs.Along.{GoesAlong}
 use Rattle.jser_index.specs.Showing.{PutsText, PutsFront}
@@ -37,13 +37,6 @@ SaysAlong bytes rest r tally start old now before after walk = GoesAlong open_ga
 
 pub begins_none : (out : Outgoing) (sink : SinkState) (all : List ℕ → List ℕ) → Begins out out sink sink all
 begins_none out sink all = record { left = all; said = says_none out sink all }
-
-pub begins_same : {S : Type 0} (gone_out : S → Option (List ℕ)) (has_failed : S → Bool) (old new : Outgoing) (before after : S) (all : List ℕ → List ℕ)
-    → new ≡ old → after ≡ before → BeginsTo gone_out has_failed old new before after all
-begins_same gone_out has_failed old new before after all out sink =
-    subst (λ o. BeginsTo gone_out has_failed old o before after all) (sym out)
-    (subst (λ s. BeginsTo gone_out has_failed old old before s all) (sym sink)
-    (begins_none old (sink_state (gone_out before) (has_failed before)) all))
 
 pub ok_by : {T E P Q : Type 0} (r : Result T E) → OnOk r P → (P → Q) → OnOk r Q
 ok_by (Ok x) p f = f p

@@ -65,11 +65,6 @@ no_string_name : (long : Bool) → names_begun (tag_of_string long) ≡ 0
 no_string_name false = refl
 no_string_name true = refl
 
-passes_string : (long : Bool) (units : List ℕ) (d : ℕ) (m : Moment) (ns : Names) (rest : List Piece)
-    → collected (awaits ns (names_begun (tag_of_string long))) (at (string_at long) d m (text_token long units) ∷ rest) ≡ collected (has ns) rest
-passes_string long units d m ns rest =
-    ap (λ n. collected (awaits ns n) (at (string_at long) d m (text_token long units) ∷ rest)) (no_string_name long)
-
 passes_text : (t : TextPlaceTree) (d : ℕ) (m : Moment) (ns : Names) (rest : List Piece) → collected (has ns) (cut_text_place d m t rest) ≡ collected (has ns) rest
 passes_text (new_text t) d m ns rest = ap (λ n. collected (awaits ns n) (at (string_at t.long) d m (text_token t.long t.units) ∷ rest)) (no_string_name t.long)
 passes_text (back_text n) d m ns rest = refl

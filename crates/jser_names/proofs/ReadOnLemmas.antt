@@ -113,16 +113,3 @@ halted_from had mid has left count buffer bytes halt size off t left_is =
 pub halted_stop : {S : Type 0} (took : List ℕ → S → Type 0) (had mid has : Option (List ℕ)) (left count : ℕ) (buffer : List ℕ) (x : S) (halt : Halt) → Reads took had mid left x
     → TakesSome left buffer mid has count → halt.left ≡ left - count → IsHalted had has halt
 halted_stop took had mid has left count buffer x halt h t is = halted_from had mid has left count buffer h.bytes halt h.size h.off t is
-
-ended_from : (had mid has : Option (List ℕ)) (left : ℕ) (buffer bytes : List ℕ) (halt : Halt) → Consumes had mid bytes → TakesSome left buffer mid has 0 → IsHalted had has halt
-ended_from had mid has left buffer bytes halt off t =
-    of_fault (Passed (most_bytes + 1) halt.left had has) halt.fault
-    (record { bytes = bytes ++ take 0 buffer; off = Consumes-trans had mid has bytes (take 0 buffer) off t.off; all = told had (t.end refl) })
-  where
-    told : (xs : Option (List ℕ)) → IsAtEnd has → IfSome xs (λ tells. IsAtEnd has ⊎ (most_bytes + 1 ≤ length (bytes ++ take 0 buffer) + halt.left))
-    told None done = tt
-    told (Some all) done = inl done
-
-pub halted_end : {S : Type 0} (took : List ℕ → S → Type 0) (had mid has : Option (List ℕ)) (left : ℕ) (buffer : List ℕ) (x : S) (halt : Halt) → Reads took had mid left x
-    → TakesSome left buffer mid has 0 → IsHalted had has halt
-halted_end took had mid has left buffer x halt h t = ended_from had mid has left buffer h.bytes halt h.off t

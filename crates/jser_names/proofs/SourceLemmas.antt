@@ -1,5 +1,5 @@
 -- The reads of a source, one after another, and its end.
-use Rattle.std.proofs.Common.{◌≡◌, ◌⊎◌, inl, inr, ℕ, ◌+◌, ◌-◌, ◌<◌, ◌≤◌, Bool, true, List, [], ◌++◌, length, take, drop, Option, Some, None, Err, refl, sym, ◌∙◌, ap, subst, arith, append_assoc, append-nil, length-append, length-take-le}
+use Rattle.std.proofs.Common.{◌≡◌, ◌⊎◌, inl, inr, ℕ, ◌+◌, ◌-◌, Bool, true, List, [], ◌++◌, length, take, drop, Option, Some, None, Err, refl, sym, ◌∙◌, ap, subst, arith, append_assoc, append-nil, length-append, length-take-le}
 use Rattle.std.proofs.KnownBytes.{Consumes-nil, Consumes-trans}
 use Rattle.std.proofs.lemmas.List.{take-append-drop}
 use Rattle.std.specs.Global.{Global}
@@ -18,7 +18,7 @@ use Rattle.jser_reader.proofs.RefusalLemmas.{front_refused}
 use Rattle.jser_names.specs.Found.{HasFound}
 use Rattle.jser_names.specs.Named.{IsNamed}
 use Rattle.jser_names.specs.Sources.{HasNames, IsRefused, IfRefused, FailsWith, TakesSome, Ends, Reads}
-use Rattle.jser_names.specs.Takers.{EndCases, TookCases}
+use Rattle.jser_names.specs.Takers.{TookCases}
 use Rattle.jser_names.specs.Wholes.{IsStream}
 use Rattle.jser_names.specs.declared.found.Found.{Found}
 use Rattle.jser_names.specs.declared.source.NamesFault.{NamesFault}
@@ -45,10 +45,6 @@ of_named (Some bytes) whole found h = (h.0, of_found (Some bytes) found found.na
 
 pub reads_none : {S : Type 0} (took : List ℕ → S → Type 0) (had : Option (List ℕ)) (x : S) → took [] x → Reads took had had (most_bytes + 1) x
 reads_none took had x st = record { bytes = []; size = refl; off = Consumes-nil had; stands = st }
-
-pub reads_some : {S : Type 0} (took : List ℕ → S → Type 0) (within : (bytes : List ℕ) (x : S) → took bytes x → length bytes ≤ most_bytes) (had has : Option (List ℕ)) (left : ℕ)
-    (x : S) → Reads took had has left x → 0 < left
-reads_some took within had has left x h = let a = h.size in let b = within h.bytes x h.stands in omega arith
 
 pub reads_more : {S : Type 0} (took : List ℕ → S → Type 0) (had mid has : Option (List ℕ)) (left count : ℕ) (buffer piece : List ℕ) (x y : S) → Reads took had mid left x
     → TakesSome left buffer mid has count → piece ≡ take count buffer → ((taken : List ℕ) → took taken x → took (taken ++ piece) y) → Reads took had has (left - count) y
@@ -110,29 +106,6 @@ pub whole_read : (had has : Option (List ℕ)) (bytes : List ℕ) → Consumes h
 whole_read None has bytes off done = tt
 whole_read (Some all) None bytes off done = absurd off
 whole_read (Some all) (Some rest) bytes off done = sym (off ∙ ap (λ xs. bytes ++ xs) done ∙ append-nil bytes)
-
-pub at_all : (had : Option (List ℕ)) (bytes : List ℕ) (P : List ℕ → Type 0) → IfSome had (λ all. bytes ≡ all) → P bytes → IfSome had P
-at_all None bytes P same p = tt
-at_all (Some all) bytes P same p = subst P same p
-
-ended : {S : Type 0} (took : List ℕ → S → Type 0) (had mid has : Option (List ℕ)) (left : ℕ) (buffer : List ℕ) (x : S) → (h : Reads took had mid left x)
-    → TakesSome left buffer mid has 0 → IfSome had (λ all. h.bytes ≡ all)
-ended took had mid has left buffer x h t =
-    whole_read had has h.bytes (subst (Consumes had has) (append-nil h.bytes) (Consumes-trans had mid has h.bytes [] h.off t.off)) (t.end refl)
-
-pub end_accepts : {S F : Type 0} (took : List ℕ → S → Type 0) (finds : List ℕ → F → Type 0) (had mid has : Option (List ℕ)) (left : ℕ) (buffer : List ℕ) (x : S) (found : F)
-    → Reads took had mid left x → TakesSome left buffer mid has 0 → ((taken : List ℕ) → took taken x → finds taken found) → IfSome had (λ bytes. finds bytes found)
-end_accepts took finds had mid has left buffer x found h t e =
-    at_all had h.bytes (λ bytes. finds bytes found) (ended took had mid has left buffer x h t) (e h.bytes h.stands)
-
-pub end_refuses : {S F : Type 0} (took : List ℕ → S → Type 0) (finds : List ℕ → F → Type 0) (had mid has : Option (List ℕ)) (left : ℕ) (buffer : List ℕ) (x : S) (why : Stop)
-    (fault_told : NamesFault) → Reads took had mid left x → TakesSome left buffer mid has 0 → ((taken : List ℕ) → took taken x → EndCases finds taken (Err why)) → Ends why fault_told
-    → IfSome had (λ bytes. IfRefused (IsRefused bytes) fault_told)
-end_refuses took finds had mid has left buffer x (stop.Refused refusal) told h t e is =
-    refused_as had refusal told is
-    (at_all had h.bytes (λ bytes. IsRefused bytes refusal) (ended took had mid has left buffer x h t) (inr (e h.bytes h.stands)))
-end_refuses took finds had mid has left buffer x stop.OutOfMemory told h t e is = none_refused had told is
-end_refuses took finds had mid has left buffer x stop.Spent told h t e is = none_refused had told is
 
 -- ---- what is told
 

@@ -164,10 +164,6 @@ many : (n : ℕ) → Many n
 many zero = none_left refl
 many (suc n) = some_left (omega arith)
 
-empty_text : (xs : List ℕ) → length xs ≡ 0 → xs ≡ []
-empty_text [] e = refl
-empty_text (x ∷ xs) e = absurd (omega arith)
-
 length_ends : (front : List Piece) (cut taken : List ℕ) (label : Label) (long : Bool) (to : Spot) (mid new : Names) → Closed front cut mid
     → ComesNext front label → items_at label.position ≡ text_items long → length (cut ++ taken) ≡ head_size long → new ≡ begun mid → Many mid.left
     → (e : EndsToken (spot front cut) label (cut ++ taken) to) → Further front mid.longest to new

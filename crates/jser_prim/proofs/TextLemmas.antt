@@ -1,7 +1,6 @@
 -- Texts: lists of units, their spellings, and the fronts of these.
-use Rattle.std.proofs.Common.{◌≡◌, ℕ, zero, suc, ◌+◌, ◌-◌, ◌*◌, ◌<◌, ◌≤◌, inl, inr, List, [], ◌∷◌, ◌++◌, length, take, drop, get_or, replicate, refl, arith, sym, ap, subst, ◌∙◌, All, rules, tests, append_assoc}
-use Rattle.std.proofs.lemmas.Bool.{cases_lt}
-use Rattle.std.proofs.lemmas.List.{append-nil, length-append, length-replicate, nil_from_length, take-append-drop, take-take, take_more}
+use Rattle.std.proofs.Common.{◌≡◌, ℕ, zero, suc, ◌+◌, ◌-◌, ◌<◌, ◌≤◌, inl, inr, List, [], ◌∷◌, ◌++◌, length, take, drop, get_or, replicate, refl, arith, sym, ap, subst, ◌∙◌, All, rules, tests, append_assoc}
+use Rattle.std.proofs.lemmas.List.{append-nil, length-append, length-replicate, nil_from_length, take-append-drop, take_more}
 use Rattle.std.proofs.lemmas.List.Elements.{All-append, All-cons, All-nil, All-same}
 use Rattle.jser_prim.specs.ModifiedUtf8.{unit_spelling, modified_utf8, IsUnits}
 use Rattle.jser_prim.specs.Texts.{BeginsText, FaultsAfter}
@@ -118,15 +117,6 @@ modified_utf8-fits [] are = All-nil (λ b. b < 256)
 modified_utf8-fits (unit ∷ units) are =
     All-append (λ b. b < 256) (unit_spelling unit) (modified_utf8 units) (unit_spelling-fits unit (units_head unit units are)) (modified_utf8-fits units (units_tail unit units are))
 
--- there is at least one for each unit, and at most three
-pub length-modified_utf8 : (units : List ℕ) → IsUnits units → IsWithin (length units) (3 * length units) (length (modified_utf8 units))
-length-modified_utf8 [] are = record { least = omega arith; most = omega arith }
-length-modified_utf8 (unit ∷ units) are =
-    let one = length-unit_spelling unit (units_head unit units are) in
-    let rest = length-modified_utf8 units (units_tail unit units are) in
-    let both = length-append (unit_spelling unit) (modified_utf8 units) in
-    record { least = omega (arith, one.least, rest.least); most = omega (arith, one.most, rest.most) }
-
 -- one unit more
 pub modified_utf8_more : (units : List ℕ) (i : ℕ) → i < length units → modified_utf8 (take (i + 1) units) ≡ modified_utf8 (take i units) ++ unit_spelling (get_or units i 0)
 modified_utf8_more units i inside =
@@ -187,19 +177,3 @@ no_text len before bytes accepted faults begins =
     let split : before ++ bytes ≡ (before ++ take (accepted + 1) bytes) ++ drop (accepted + 1) bytes =
     ap (λ xs. before ++ xs) (sym (take-append-drop (accepted + 1) bytes)) ∙ sym (append_assoc before (take (accepted + 1) bytes) (drop (accepted + 1) bytes)) in
     faults.fault (begins_front len (before ++ take (accepted + 1) bytes) (drop (accepted + 1) bytes) (subst (BeginsText len) split begins))
-
--- no text goes on past a fault
-no_later : (len : ℕ) (before bytes : List ℕ) (i j : ℕ) → i < j → FaultsAfter len before bytes i → FaultsAfter len before bytes j → ⊥
-no_later len before bytes i j less first second =
-    let short : take (i + 1) (take j bytes) ≡ take (i + 1) bytes = take-take (i + 1) j bytes (omega arith) in
-    let split : before ++ take j bytes ≡ (before ++ take (i + 1) bytes) ++ drop (i + 1) (take j bytes) =
-    ap (λ xs. before ++ xs) (sym (take-append-drop (i + 1) (take j bytes)) ∙ ap (λ xs. xs ++ drop (i + 1) (take j bytes)) short)
-    ∙ sym (append_assoc before (take (i + 1) bytes) (drop (i + 1) (take j bytes))) in
-    first.fault (begins_front len (before ++ take (i + 1) bytes) (drop (i + 1) (take j bytes)) (subst (BeginsText len) split second.begins))
-
--- there is one first fault
-pub one_fault : (len : ℕ) (before bytes : List ℕ) (i j : ℕ) → FaultsAfter len before bytes i → FaultsAfter len before bytes j → i ≡ j
-one_fault len before bytes i j first second = elim (cases_lt i j) [
-  | inl less ↦ absurd (no_later len before bytes i j less first second)
-  | inr not ↦ elim (cases_lt j i) [ inl more ↦ absurd (no_later len before bytes j i more second first) | inr same ↦ omega arith ]
-]

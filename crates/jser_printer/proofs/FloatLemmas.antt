@@ -1,11 +1,10 @@
 -- Floats, as they are said.
-use Rattle.std.proofs.Common.{◌≡◌, ℕ, ◌<◌, ◌≤◌, ◌+◌, ◌-◌, ◌==◌, nat_lt, ◌&&◌, ◌⊎◌, Bool, true, false, if◌then◌else◌, List, [], ◌∷◌, ◌++◌, length, min, take, drop, refl, sym, ap, ◌∙◌, append_assoc, arith}
-use Rattle.std.specs.Prelude.{nat_le}
-use Rattle.std.proofs.lemmas.Bool.{eq-eqb, ne_eqb}
+use Rattle.std.proofs.Common.{◌≡◌, ℕ, ◌<◌, ◌+◌, ◌-◌, nat_lt, Bool, true, if◌then◌else◌, List, [], ◌∷◌, ◌++◌, length, min, take, drop, refl, sym, ap, ◌∙◌, append_assoc, arith}
+use Rattle.std.proofs.lemmas.Bool.{ne_eqb}
 use Rattle.std.proofs.lemmas.Bool.Decides.{nat_tests}
 use Rattle.std.specs.Fmt.{decimal}
 use Rattle.jser_prim.specs.Outgoing.{Outgoing, SinkState}
-use Rattle.jser_shown.specs.Floats.{below_one, exponent_text, laid_out, or_zero, put_before, scientific, sign_of, trimmed, with_point}
+use Rattle.jser_shown.specs.Floats.{exponent_text, or_zero, put_before, sign_of, trimmed, with_point}
 use Rattle.jser_decimal.specs.declared.float.Magnitude.{Magnitude}
 use Rattle.jser_decimal.specs.declared.float.Magnitude.TheVariants as magnitude
 use Rattle.std.proofs.lemmas.List.{drop_min, take_min}
@@ -36,22 +35,6 @@ trimmed_digit (first ∷ []) digit other = ap (put_before first) (trimmed_digit 
 trimmed_digit (first ∷ next ∷ digits) digit other = ap (put_before first) (trimmed_digit (next ∷ digits) digit other)
 
 -- where the point is written
-
-pub laid_out_plain : (point : ℕ) (digits : List ℕ) → 345 ≤ point → point ≤ 351 → laid_out point digits ≡ with_point (point - 344) digits
-laid_out_plain point digits from to = ap (λ t. if t then with_point (point - 344) digits else (if nat_lt 341 point && nat_le point 344 then below_one point digits else scientific point digits))
-    (let t : (nat_lt 344 point && nat_le point 351) ≡ true = grind (arith, nat_tests, from, to) in t)
-
-pub laid_out_small : (point : ℕ) (digits : List ℕ) → 342 ≤ point → point ≤ 344 → laid_out point digits ≡ below_one point digits
-laid_out_small point digits from to =
-    ap (λ t. if t then with_point (point - 344) digits else (if nat_lt 341 point && nat_le point 344 then below_one point digits else scientific point digits))
-    (let t : (nat_lt 344 point && nat_le point 351) ≡ false = grind (arith, nat_tests, from, to) in t)
-    ∙ ap (λ t. if t then below_one point digits else scientific point digits) (let t : (nat_lt 341 point && nat_le point 344) ≡ true = grind (arith, nat_tests, from, to) in t)
-
-pub laid_out_far : (point : ℕ) (digits : List ℕ) → (point < 342) ⊎ (351 < point) → laid_out point digits ≡ scientific point digits
-laid_out_far point digits far =
-    ap (λ t. if t then with_point (point - 344) digits else (if nat_lt 341 point && nat_le point 344 then below_one point digits else scientific point digits))
-    (let t : (nat_lt 344 point && nat_le point 351) ≡ false = grind (arith, nat_tests, far) in t)
-    ∙ ap (λ t. if t then below_one point digits else scientific point digits) (let t : (nat_lt 341 point && nat_le point 344) ≡ false = grind (arith, nat_tests, far) in t)
 
 pub exponent_below : (point : ℕ) → point < 345 → exponent_text point ≡ 0x2D ∷ decimal (345 - point)
 exponent_below point below = ap (λ t. if t then 0x2D ∷ decimal (345 - point) else decimal (point - 345)) (let t : nat_lt point 345 ≡ true = grind (arith, nat_tests, below) in t)

@@ -8,7 +8,7 @@ use Rattle.jser_prim.specs.Bytes.{big_bytes}
 use Rattle.jser_prim.specs.Outgoing.{Outgoing, SinkState}
 use Rattle.jser_grammar.specs.Codes.{PrimCode, byte_code, char_code, double_code, float_code, int_code, long_code, short_code, boolean_code, size_of}
 use Rattle.jser_reading.specs.TokensFromBytes.{number_of}
-use Rattle.jser_reading.proofs.Decoding.{number_1, number_2, number_4, number_8}
+use Rattle.jser_reading.proofs.Decoding.{number_2, number_4, number_8}
 use Rattle.jser_decimal.specs.declared.float.Float.{Float}
 use Rattle.jser_decimal.specs.Floats.{double_of, single_of}
 use Rattle.jser_shown.specs.Floats.{float_text}
@@ -105,12 +105,6 @@ says_no_truth a d n zero one = says_nothing a d (λ k. in_brackets (boolean_text
     ∙ ap (λ t. in_brackets (if t then Some (codes "true") else None) k) (ne_eqb n 1 one))
 
 -- two's complement
-
-pub says_positive : (a b : Outgoing) (d e : SinkState) (least n : ℕ) → n < least → Says a b d e (λ k. decimal n ++ k)
-    → Says a b d e (λ k. signed_text least n ++ k)
-says_positive a b d e least n below h =
-    says_same a b d e (λ k. decimal n ++ k) (λ k. signed_text least n ++ k)
-    (λ k. ap (λ t. (if t then decimal n else 0x2D ∷ decimal (least + least - n)) ++ k) (let t : nat_lt n least ≡ true = grind (arith, nat_tests, below) in t)) h
 
 pub says_negative : (a b c : Outgoing) (d e f : SinkState) (least n m : ℕ) → least ≤ n → m ≡ least - (n - least) → Says a b d e (λ k. 0x2D ∷ k)
     → Says b c e f (λ k. decimal m ++ k) → Says a c d f (λ k. signed_text least n ++ k)

@@ -1,14 +1,13 @@
 -- Steps between two tokens.
-use Rattle.std.proofs.Common.{◌≡◌, ℕ, suc, ◌<◌, List, length, true, Some, None, Result, Ok, Err, OnOk, OnErr, refl, sym, ap, subst, ◌∙◌, rules, arith}
+use Rattle.std.proofs.Common.{◌≡◌, ℕ, List, length, None, Result, Ok, Err, OnOk, OnErr, refl, sym, ap, subst, ◌∙◌, rules}
 use Rattle.jser_prim.specs.Outgoing.{Outgoing, SinkState}
 use Rattle.jser_reading.specs.Labels.{StreamToken}
 use Rattle.jser_shown.specs.Cues.{Teller}
-use Rattle.jser_shown.specs.Telling.{SeenToken, says, says_in, settle_says, settled, first_owner}
-use Rattle.jser_shown.specs.Telling.{seen as seen_of}
+use Rattle.jser_shown.specs.Telling.{SeenToken, says, says_in, settle_says, settled, first_owner, seen as seen_of}
 use Rattle.jser_printer.specs.TokenWords.{epoch_in, token_words}
 use Rattle.jser_printer.specs.declared.words.tag.Marks.{Marks}
-use Rattle.jser_printer.specs.Steps.{Due, due, due_says, pass, steps_left}
-use Rattle.jser_printer.specs.Passing.{Passed, MarksAre, says_next}
+use Rattle.jser_printer.specs.Steps.{due, due_says, pass}
+use Rattle.jser_printer.specs.Passing.{MarksAre, says_next}
 use Rattle.jser_printer.specs.Says.{Saying, Says, Begins}
 use Rattle.jser_printer.proofs.SaysLemmas.{says_on, says_both, says_same}
 
@@ -16,10 +15,6 @@ use Rattle.jser_printer.proofs.SaysLemmas.{says_on, says_both, says_same}
 steps-settle : (s : Teller) → (settled s ≡ settled (pass s))
     × ((k : List ℕ) → settle_says s.known s.cues k ≡ due_says (due s) (settle_says (pass s).known (pass s).cues k))
 steps-settle = search rules
-
--- After each step there is one step less.
-steps-end : (s : Teller) (d : Due) → due s ≡ Some d → steps_left s ≡ suc (steps_left (pass s))
-steps-end = search rules
 
 -- Where nothing is due the teller has settled, and nothing more is said.
 nothing-due : (s : Teller) → due s ≡ None → (settled s ≡ s) × ((k : List ℕ) → settle_says s.known s.cues k ≡ k)
@@ -39,11 +34,6 @@ says_step a b c d e f all s t h g is =
 pub step_settles : (s t : Teller) → t ≡ pass s → settled s ≡ settled t
 step_settles s t is = (steps-settle s).0 ∙ ap settled (sym is)
 
-pub one_step_less : (s t : Teller) → Passed true s t → steps_left t < steps_left s
-one_step_less s t passed =
-    let less = steps-end s passed.0.0 passed.0.1 in
-    omega (arith, less, ap steps_left passed.1)
-
 -- nothing more is due
 pub says_settled : (a b c : Outgoing) (d e f : SinkState) (all : List ℕ → List ℕ) (s : Teller)
     → Saying a b d e all (λ k. settle_says s.known s.cues k) → Says b c e f (λ k. due_says (due s) k) → due s ≡ None → Says a c d f all
@@ -53,9 +43,6 @@ says_settled a b c d e f all s h g is =
       puts = g.puts;
       is = λ k. (nothing-due s is).1 k ∙ ap (λ x. due_says x k) (sym is) ∙ g.is k;
     })
-
-pub settled_there : (s : Teller) → due s ≡ None → settled s ≡ s
-settled_there s is = (nothing-due s is).0
 
 -- where memory ran out in a step
 pub says_begun : (a b c : Outgoing) (d e f : SinkState) (all : List ℕ → List ℕ) (s : Teller)

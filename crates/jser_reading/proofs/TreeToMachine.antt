@@ -1,7 +1,7 @@
 -- From trees to the machine: the tokens of a well-formed tree take the machine from the state before the tree to
 -- the one behind it, whatever comes after. One lemma for each kind of tree; each case follows the tokens in order.
 use Rattle.std.proofs.Common.{◌≡◌, ℕ, suc, Bool, true, false, ◌||◌, if◌then◌else◌, List, [], ◌∷◌, ◌++◌, length, refl, Option, Some, None, IsTrue, nat_eq, true≢false, is_some, MatchBool}
-use Rattle.jser_reading.proofs.Vocabulary.{has_write_method, text_entry, other_entry, pending_entry, chain_at, NameKind, name_kind, layer_kind, Layer, PrimCode, prim_code_of, is_object_code, primitive_codes, object_count, TextPlaceTree, new_text, back_text, FieldTree, PrimTree, ValueTree, null, back, string, descriptor, class_object, array, enum_constant, object, DescTree, plain, proxy, ClassPlaceTree, no_class, back_class, new_class, BodyTree, raw_body, value_body, ValueTrees, no_values, value_and, section, SectionTrees, no_sections, section_and, NotesTree, no_notes, annotation, block, reset, content, ContentTrees, no_contents, content_and, value_count, Entries, add, codes_of, plain_layer, proxy_layer, after_desc, after_contents, chain_of_class, chain_of_desc, IsText, AreClassNames, WellFormedText, WellFormedType, WellFormedFields, ArePrimsOf, ArePrims, IsBytes, IsBlock, elements_of, is_external, WellFormedValue, WellFormedDesc, WellFormedClass, WellFormedSuperclass, WellFormedBody, WellFormedValues, WellFormedExternal, WellFormedSections, WellFormedNotesIf, WellFormedNotes, WellFormedContents, Owner, object_owner, array_owner, enum_owner, class_owner, ChainOwner, Role, own_class, superclass, owner_of, is_strict_above, FitsOwner, FitsRole, Moment, tick, assign, closing, emptied, next_number, past_text, past_type, past_fields, past_value, past_desc, past_class, past_body, past_values, past_sections, past_notes, past_contents, tag_token, array_length_token, text_token, block_length_token, text_place_at, class_place_at, superclass_place_at, string_at, array_length_at, block_length_at, Piece, piece, at, tag_of_string, tag_of_desc, tag_of, cut_text_place, cut_type, cut_fields, cut_interfaces, cut_bytes, cut_raw, cut_prims, cut_value, cut_desc, cut_class, cut_superclass, cut_body, cut_values, cut_external, cut_sections, cut_notes, cut_annotation, cut_top, Part, raw_part, annotation_part, Goal, top_goal, annotation_goal, text_place_goal, string_goal, block_length_goal, block_goal, array_length_goal, parts_goal, class_goal, made_goal, superclass_goal, close_goal, class_name_goal, fields_goal, interfaces_goal, State, prim_parts, value_parts, annotation_if, section_parts, object_parts, in_order, read_layer, ending, settled, may_follow, open_proxy, begin, type_goals, Reads}
+use Rattle.jser_reading.proofs.Vocabulary.{has_write_method, text_entry, other_entry, pending_entry, chain_at, NameKind, name_kind, layer_kind, Layer, PrimCode, prim_code_of, is_object_code, primitive_codes, object_count, TextPlaceTree, new_text, back_text, FieldTree, PrimTree, ValueTree, null, back, string, descriptor, class_object, array, enum_constant, object, DescTree, plain, proxy, ClassPlaceTree, no_class, back_class, new_class, BodyTree, raw_body, value_body, ValueTrees, no_values, value_and, section, SectionTrees, no_sections, section_and, NotesTree, no_notes, annotation, block, reset, content, ContentTrees, no_contents, content_and, value_count, Entries, add, codes_of, plain_layer, proxy_layer, after_desc, after_contents, chain_of_class, chain_of_desc, IsText, AreClassNames, WellFormedText, WellFormedType, WellFormedFields, ArePrimsOf, ArePrims, IsBytes, IsBlock, elements_of, is_external, WellFormedValue, WellFormedDesc, WellFormedClass, WellFormedSuperclass, WellFormedBody, WellFormedValues, WellFormedExternal, WellFormedSections, WellFormedNotesIf, WellFormedNotes, WellFormedContents, Owner, object_owner, array_owner, enum_owner, class_owner, ChainOwner, Role, own_class, superclass, owner_of, is_strict_above, FitsOwner, FitsRole, Moment, tick, assign, closing, emptied, next_number, past_text, past_type, past_fields, past_value, past_desc, past_class, past_body, past_values, past_sections, past_notes, past_contents, tag_token, array_length_token, text_token, block_length_token, text_place_at, class_place_at, superclass_place_at, string_at, array_length_at, block_length_at, Piece, piece, at, tag_of_string, tag_of_desc, tag_of, cut_text_place, cut_type, cut_fields, cut_interfaces, cut_bytes, cut_raw, cut_prims, cut_value, cut_desc, cut_class, cut_superclass, cut_body, cut_values, cut_external, cut_sections, cut_notes, cut_annotation, cut_top, Part, raw_part, annotation_part, Goal, top_goal, annotation_goal, text_place_goal, block_length_goal, block_goal, array_length_goal, parts_goal, class_goal, made_goal, superclass_goal, close_goal, class_name_goal, fields_goal, interfaces_goal, State, prim_parts, value_parts, annotation_if, section_parts, object_parts, in_order, read_layer, ending, settled, may_follow, open_proxy, begin, type_goals, Reads}
 use Rattle.std.proofs.Common.{eqb-true}
 use Rattle.jser_grammar.specs.Counts.{array_length}
 use Rattle.jser_grammar.proofs.Bools.{both_ways, untrue}
@@ -41,12 +41,6 @@ reads_made class_owner d number m gs rest k =
     resettle rest (assign m other_entry, gs) (m, made_goal class_owner d number ∷ gs) refl k
 
 -- texts, fields and interfaces
-
-reads_string : (long : Bool) (units : List ℕ) (d : ℕ) (m : Moment) (gs : List Goal) (rest : List Piece) → IsText long units
-    → Reads (m, gs) rest
-    → Reads (m, string_goal long d ∷ gs) (at (string_at long) d m (text_token long units) ∷ rest)
-reads_string true units d m gs rest h k = (refl, h, k)
-reads_string false units d m gs rest h k = (refl, h, k)
 
 reads_new_text : (long : Bool) (units : List ℕ) (d : ℕ) (m : Moment) (gs : List Goal) (rest : List Piece) → IsText long units
     → Reads (assign m text_entry, gs) rest

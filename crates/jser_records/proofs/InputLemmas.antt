@@ -1,6 +1,6 @@
 -- What is written of all records of an input.
-use Rattle.std.proofs.Common.{◌≡◌, ◌≢◌, ◌⊎◌, ℕ, ◌<◌, Bool, true, false, List, [], ◌++◌, Option, Some, None, Result, Ok, Err, inl, inr, refl, sym, ap, subst, ◌∙◌, append-nil}
-use Rattle.std.specs.Prelude.{IfOk, MatchResult, OnOk, option_map}
+use Rattle.std.proofs.Common.{◌≡◌, ◌≢◌, ◌⊎◌, ℕ, ◌<◌, Bool, true, false, List, [], Option, Some, None, Result, Ok, Err, inl, inr, refl, sym, ap, subst, ◌∙◌, append-nil}
+use Rattle.std.specs.Prelude.{IfOk, MatchResult, OnOk}
 use Rattle.std.specs.Io.KnownBytes.{Appends}
 use Rattle.jser_prim.specs.Outgoing.{Outgoing, SinkState, Puts}
 use Rattle.jser_prim.proofs.OutgoingLemmas.{nothing, went_out}
@@ -37,11 +37,6 @@ less_whole layout terms (Some bytes) events whole other so (to, rest, are, ends)
 none_so_far : (layout : Shape) (terms : Terms) (input : Option (List ℕ)) (whole : At → Type 0) → (whole at_line → ⊥) → AreAll layout terms input [] whole
 none_so_far layout terms None whole not = tt
 none_so_far layout terms (Some bytes) whole not = (at_line, bytes, (refl, refl), λ w. absurd (not w))
-
--- nothing waits so far
-pub from_start : (to_come : Option (List ℕ)) → option_map (λ xs. [] ++ xs) to_come ≡ to_come
-from_start None = refl
-from_start (Some xs) = refl
 
 -- ---- one shape
 

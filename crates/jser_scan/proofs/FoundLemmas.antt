@@ -98,12 +98,6 @@ pub unread_anywhere : (rules : Rules) (told : Option (List ℕ)) (why : InputFau
 unread_anywhere rules None why = tt
 unread_anywhere rules (Some bytes) why = tt
 
-pub names_first_anywhere : (rules : Rules) (told : Option (List ℕ)) (refusal : Refusal) (result : Found)
-    → SourceTells rules.filter (options_in rules) told (Err (fault.Stop (stop.Refused refusal))) → IsRefusal rules refusal result
-    → IfSome told (λ bytes. NamesFirst rules bytes result)
-names_first_anywhere rules None refusal result h is = tt
-names_first_anywhere rules (Some bytes) refusal result h is = names_first rules (Some bytes) refusal result h.first is
-
 pub hidden_first : (rules : Rules) (told : Option (List ℕ)) (from to : ℕ) (result : Found) → IsHidden rules from to result → IfSome told (λ bytes. NamesFirst rules bytes result)
 hidden_first rules None from to result is = tt
 hidden_first rules (Some bytes) from to (found.Accepted totals) is = tt

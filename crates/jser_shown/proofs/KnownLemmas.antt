@@ -277,9 +277,6 @@ elements-known (a ∷ b ∷ chain) = elements-known (b ∷ chain)
 pub then_entry : (k : KnownEntry) (T : Known) (E : Entries) → E ≡ entries T → add E (entry_of k) ≡ entries (with_entry T k)
 then_entry k T E e = ap (λ t. add t (entry_of k)) e ∙ sym (entries-with_entry T k)
 
-pub then_text : (t : TextPlaceTree) (T : Known) (E : Entries) → E ≡ entries T → after_text_place E t ≡ entries (known_text_place T t)
-then_text x T E e = ap (λ t. after_text_place t x) e ∙ sym (entries-text x T)
-
 pub then_fields : (fs : List FieldTree) (T : Known) (E : Entries) → E ≡ entries T → after_fields E fs ≡ entries (known_fields T fs)
 then_fields fs T E e = ap (λ t. after_fields t fs) e ∙ sym (entries-fields fs T)
 

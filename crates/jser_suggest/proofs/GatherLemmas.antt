@@ -110,12 +110,6 @@ gains_one name class old new (Ok x) e a = record {
 }
 gains_one name class old new (Err why) e a = tt
 
-pub gains_none : (names : List (List ℕ)) → GainsAll [] names names
-gains_none names = record { there = tt; keeps = λ other among. among; gains = λ other among. inl among }
-
-pub gains_primitive : (name : List ℕ) (names : List (List ℕ)) → primitive_element ≡ element_of name → GainsAll (name ∷ []) names names
-gains_primitive name names e = record { there = (subst (ElementAmong names) e tt, tt); keeps = λ other among. among; gains = λ other among. inl among }
-
 each_more : {A : Type 0} (P Q : A → Type 0) (xs ys : List A) → ((x : A) → P x → Q x) → Each P xs → Each Q ys → Each Q (xs ++ ys)
 each_more P Q [] ys f h k = k
 each_more P Q (x ∷ xs) ys f h k = (f x h.0, each_more P Q xs ys f h.1 k)

@@ -126,18 +126,6 @@ learns_so bytes found old new (Err why) f h = tt
 
 -- ---- none
 
-pub known_none : AreKnown [] (record { bytes = 0; refs = 0; depth = 0; array = 0; names = [] })
-known_none = record {
-  fit = tt;
-  writable = λ name among. absurd among;
-  plain = λ name among. absurd among;
-  bytes_from = inl refl;
-  refs_from = inl refl;
-  depth_from = inl refl;
-  array_from = inl refl;
-  names_from = λ name among. absurd among;
-}
-
 -- ---- limits
 
 some_le : {A : Type 0} (Q : A → Type 0) (xs : List A) (n most : ℕ) → ((x : A) → Q x → n ≤ most) → Some_of Q xs → n ≤ most

@@ -1,5 +1,5 @@
 -- Lines of closed descriptors: one more descriptor, what its links lead to, and the class at an index of a chain.
-use Rattle.std.proofs.Common.{◌≡◌, ℕ, ◌+◌, ◌-◌, ◌<◌, List, [], ◌∷◌, ◌++◌, length, drop, fold, get_or, slice_get, Option, Some, None, refl, ap, sym, ◌∙◌, subst, arith, inl, inr, append_assoc, append-nil, length-append}
+use Rattle.std.proofs.Common.{◌≡◌, ℕ, ◌+◌, ◌-◌, ◌<◌, List, [], ◌∷◌, ◌++◌, length, drop, fold, get_or, slice_get, Option, Some, None, refl, ap, sym, ◌∙◌, subst, arith, inl, inr, append_assoc, length-append}
 use Rattle.std.proofs.lemmas.Bool.{cases_lt}
 use Rattle.std.proofs.lemmas.Option.{slice_get-get_or}
 use Rattle.std.proofs.lemmas.List.{get_or_append_left, get_or_default, get_or_past, get_or_push, get_or_at, length_push, drop_at, length-take-le}
@@ -19,9 +19,6 @@ use Rattle.jser_table.proofs.WalkLemmas.{layer_found}
 
 LeadsTo-from : (xs ys whole : List ℕ) → whole ≡ xs ++ ys → LeadsTo xs whole
 LeadsTo-from xs ys whole e = record { rest = e ∙ ap (λ rest. xs ++ rest) (sym (ap (drop (length xs)) e ∙ drop_at xs ys (length xs) refl)) }
-
-pub LeadsTo-refl : (xs : List ℕ) → LeadsTo xs xs
-LeadsTo-refl xs = LeadsTo-from xs [] xs (rw append-nil refl)
 
 pub LeadsTo-trans : (xs ys zs : List ℕ) → LeadsTo xs ys → LeadsTo ys zs → LeadsTo xs zs
 LeadsTo-trans xs ys zs f g =
@@ -104,10 +101,6 @@ pub lined_none : (ds : List Descriptor) → ds ≡ [] → AreLined ds
 lined_none ds e = rw e (λ place d inside read. absurd (omega arith))
 
 -- links
-
--- a parent is above, and where its jump leads
-pub link_above : (lines : List (List ℕ)) (place : ℕ) (d : Descriptor) (links : Links) → IsLined lines place d.links → d.links ≡ Some links → IsLined lines place (Some links)
-link_above lines place d links lined is = subst (IsLined lines place) is lined
 
 -- a line is as long as its chain
 

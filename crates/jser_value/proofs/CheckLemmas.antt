@@ -198,9 +198,6 @@ pub judged_section : {X : Type 0} → (r : Result X Fault) (T U V : Entries) (l 
 judged_section r T U V l s frame h =
     subst (λ (b : Bool). Judges r b V U) (sym (section_apart T l s ∙ ap (λ b. b && obeys_held T s) frame)) h
 
-pub frame_failed : (T : Entries) (l : Option Layer) (s : SectionTree) → obeys_frame l s ≡ false → obeys_section_at T s l ≡ false
-frame_failed T l s h = section_apart T l s ∙ ap (λ b. b && obeys_held T s) h
-
 -- where a part fails its test, so does the whole
 pub judged_failed : {X : Type 0} → (r : Result X Fault) (e : Fault) (part whole : Bool) (A B U V : Entries) → r ≡ Err e → Judges {X = X} (Err e) part A U
     → (part ≡ false → whole ≡ false) → Judges r whole B V

@@ -140,33 +140,12 @@ pub plain_room_fields : (T : Entries) (name : List ℕ) (suid flags : ℕ) (fiel
     → x ≡ plain name suid flags fields notes parent → HasRoom T (desc_spelling x) → HasRoomForOneMore T (fields_spelling fields)
 plain_room_fields T name suid flags fields notes parent x ex room = omega (arith, room, plain_longer name suid flags fields notes parent x ex)
 
-pub plain_room_notes : (T T2 : Entries) (name : List ℕ) (suid flags : ℕ) (fields : List FieldTree) (notes : ContentTrees) (parent : ClassPlaceTree) (x : DescTree)
-    → x ≡ plain name suid flags fields notes parent → HasRoom T (desc_spelling x) → SpendsOneMore T (fields_spelling fields) T2 []
-    → HasRoom T2 (annotation_spelling notes)
-plain_room_notes T T2 name suid flags fields notes parent x ex room s2 = omega (arith, room, s2, plain_longer name suid flags fields notes parent x ex)
-
-pub plain_room_above : (T T2 T3 : Entries) (name : List ℕ) (suid flags : ℕ) (fields : List FieldTree) (notes : ContentTrees) (parent : ClassPlaceTree)
-    (x : DescTree)
-    → x ≡ plain name suid flags fields notes parent → HasRoom T (desc_spelling x) → SpendsOneMore T (fields_spelling fields) T2 []
-    → Spends T2 (annotation_spelling notes) T3 [] → HasRoom T3 (class_spelling parent)
-plain_room_above T T2 T3 name suid flags fields notes parent x ex room s2 s3 =
-    omega (arith, room, s2, s3, plain_longer name suid flags fields notes parent x ex)
-
 pub plain_spent : (T T2 T3 T4 T5 : Entries) (name : List ℕ) (suid flags : ℕ) (fields : List FieldTree) (notes : ContentTrees) (parent : ClassPlaceTree)
     (x : DescTree)
     → x ≡ plain name suid flags fields notes parent → SpendsOneMore T (fields_spelling fields) T2 [] → Spends T2 (annotation_spelling notes) T3 []
     → Spends T3 (class_spelling parent) T4 [] → length T5 ≤ length T4 → Spends T (desc_spelling x) T5 []
 plain_spent T T2 T3 T4 T5 name suid flags fields notes parent x ex s2 s3 s4 s5 =
     omega (arith, s2, s3, s4, s5, plain_longer name suid flags fields notes parent x ex)
-
-pub proxy_room_notes : (T T1 : Entries) (interfaces : List (List ℕ)) (notes : ContentTrees) (parent : ClassPlaceTree) (x : DescTree)
-    → x ≡ proxy interfaces notes parent → HasRoom T (desc_spelling x) → length T1 ≤ length T + 1 → HasRoom T1 (annotation_spelling notes)
-proxy_room_notes T T1 interfaces notes parent x ex room s1 = omega (arith, room, s1, proxy_longer interfaces notes parent x ex)
-
-pub proxy_room_above : (T T1 T3 : Entries) (interfaces : List (List ℕ)) (notes : ContentTrees) (parent : ClassPlaceTree) (x : DescTree)
-    → x ≡ proxy interfaces notes parent → HasRoom T (desc_spelling x) → length T1 ≤ length T + 1 → Spends T1 (annotation_spelling notes) T3 []
-    → HasRoom T3 (class_spelling parent)
-proxy_room_above T T1 T3 interfaces notes parent x ex room s1 s3 = omega (arith, room, s1, s3, proxy_longer interfaces notes parent x ex)
 
 pub proxy_spent : (T T1 T3 T4 T5 : Entries) (interfaces : List (List ℕ)) (notes : ContentTrees) (parent : ClassPlaceTree) (x : DescTree)
     → x ≡ proxy interfaces notes parent → length T1 ≤ length T + 1 → Spends T1 (annotation_spelling notes) T3 [] → Spends T3 (class_spelling parent) T4 []

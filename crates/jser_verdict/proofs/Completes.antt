@@ -1,5 +1,5 @@
 -- Bytes that are as many as the token needs, and for which no reason is told, are a token that the format takes.
-use Rattle.std.proofs.Common.{◌≡◌, ℕ, ◌≤◌, Bool, true, false, ◌&&◌, not, List, [], ◌∷◌, refl, arith, Option, Some, None, nat_le, leb-true, inl, inr}
+use Rattle.std.proofs.Common.{◌≡◌, ℕ, ◌≤◌, Bool, true, false, ◌&&◌, List, [], ◌∷◌, refl, arith, Option, Some, None, nat_le, leb-true, inl, inr}
 use Rattle.std.proofs.lemmas.Bool.{cases_eq}
 use Rattle.std.proofs.lemmas.Bool.Decides.{nat_tests}
 use Rattle.jser_reading.proofs.Vocabulary.{object_owner, array_owner, enum_owner, class_owner, ChainOwner, Moment, null_tag, reference_tag, class_desc_tag, object_tag, string_tag, array_tag, class_tag, long_string_tag, proxy_desc_tag, enum_tag, StreamToken, tag_token, block_tag_token, end_tag_token, reset_tag_token, Position, top_at, annotation_at, value_at, text_place_at, class_place_at, superclass_place_at, AcceptsAt}
@@ -109,9 +109,6 @@ by_byte P h70 h71 h72 h73 h74 h75 h76 h77 h78 h79 h7A h7B h7C h7D h7E out b = go
                     ]
               ]
         ]
-
-no_row : (g : Gate) (w : Position) (b : ℕ) (others : Option Reason) → is_known_tag w b ≡ false → told_if (not (is_known_tag w b)) bad_tag others ≡ None → ⊥
-no_row g w b others e h = is_told bad_tag (rw e at h)
 
 pub top_byte : (g : Gate) (d : ℕ) (m : Moment) (b : ℕ) → let l = here top_at d m in content_reason g l b ≡ None → IsToken top_at m (b ∷ [])
 top_byte g d m = by_byte (λ b. content_reason g (here top_at d m) b ≡ None → IsToken top_at m (b ∷ []))
