@@ -180,9 +180,9 @@ pub number_kept : (gate : Gate) (p : Phase) (old new : Seen) (piece : List ℕ)
 number_kept gate p old new piece ep ec ek eo i other some short c =
     fixed_kept gate p old new piece ep ec ek eo i some short (λ _ a b e. right_but_header p a other) c
 
--- ---- the header, byte by byte
+-- ---- the header
 
-header_right : (cut : List ℕ) (b : ℕ) → differs header_bytes cut ≡ false → (a : List ℕ) (c : ℕ) (d : List ℕ) → cut ++ (b ∷ []) ≡ a ++ (c ∷ d)
+pub header_right : (cut : List ℕ) (b : ℕ) → differs header_bytes cut ≡ false → (a : List ℕ) (c : ℕ) (d : List ℕ) → cut ++ (b ∷ []) ≡ a ++ (c ∷ d)
     → differs header_bytes a ≡ false
 header_right cut b h a c d e =
     elim (before_last cut b a c d e) [
@@ -210,30 +210,28 @@ header_judged gate r s bytes h whole = record {
       };
 }
 
--- the byte is the last of the header, or it differs
-pub header_taken : (gate : Gate) (b : ℕ) (found : Flow) (old mid new : Seen)
-    → (differs header_bytes (cut_of old) ≡ false → mid.frames ≡ [] → Tells (header_reason (cut_of old ++ (b ∷ []))) (moment_of mid, top_goal ∷ []) found mid new)
-    → open_phase old ≡ phase.Header → length (cut_of old ++ (b ∷ [])) ≤ 4
-    → (differs header_bytes (cut_of old) ≡ false → header_reason (cut_of old ++ (b ∷ [])) ≡ None → length (cut_of old ++ (b ∷ [])) ≡ 4)
-    → Counts (b ∷ []) old mid
-    → Takes gate (b ∷ []) found old new
+-- the bytes are the last of the header, or the last of them differs
+pub header_taken : (gate : Gate) (taken : List ℕ) (found : Flow) (old mid new : Seen) → 0 < length taken
+    → (differs header_bytes (cut_of old) ≡ false → mid.frames ≡ [] → Tells (header_reason (cut_of old ++ taken)) (moment_of mid, top_goal ∷ []) found mid new)
+    → open_phase old ≡ phase.Header → length (cut_of old ++ taken) ≤ 4
+    → (differs header_bytes (cut_of old) ≡ false → header_reason (cut_of old ++ taken) ≡ None → length (cut_of old ++ taken) ≡ 4)
+    → (differs header_bytes (cut_of old) ≡ false → (a : List ℕ) (c : ℕ) (d : List ℕ) → cut_of old ++ taken ≡ a ++ (c ∷ d) → differs header_bytes a ≡ false)
+    → Counts taken old mid
+    → Takes gate taken found old new
 unfolding Takes
-header_taken gate b found old mid new h ep size whole c = λ s cut st.
+header_taken gate taken found old mid new some h ep size whole right c = λ s cut st.
     let o = is_open phase.Header old (settled s) cut st.stands ep (omega arith) in
     let so_far : differs header_bytes (cut_of old) ≡ false = subst (IsRightSoFar phase.Header) o.cut_is o.right in
-    fixed_took gate phase.Header (header_reason (cut_of old ++ (b ∷ []))) (moment_of mid, top_goal ∷ []) found old mid new (b ∷ []) s cut st
-    (λ r. h so_far r.0) (λ r e. header_judged gate mid (settled s) (cut_of old ++ (b ∷ [])) r (whole so_far)) ep tt (omega arith) size
-    (λ right a c d e. header_right (cut_of old) b right a c d e) c
+    fixed_took gate phase.Header (header_reason (cut_of old ++ taken)) (moment_of mid, top_goal ∷ []) found old mid new taken s cut st
+    (λ r. h so_far r.0) (λ r e. header_judged gate mid (settled s) (cut_of old ++ taken) r (whole so_far)) ep tt some size
+    (λ is a d e f. right is a d e f) c
 
--- the byte is right, and others are to come
-pub header_kept : (gate : Gate) (b : ℕ) (old new : Seen)
-    → new.phase ≡ phase.Cut → new.meter.cut_phase ≡ phase.Header → new.meter.kept ≡ cut_of old ++ (b ∷ [])
-    → open_phase old ≡ phase.Header → length (cut_of old ++ (b ∷ [])) < 4
-    → (differs header_bytes (cut_of old) ≡ false → differs header_bytes (cut_of old ++ (b ∷ [])) ≡ false)
-    → Counts (b ∷ []) old new → Keeps gate (b ∷ []) old new
-header_kept gate b old new ep ec ek eo short right c =
-    fixed_kept gate phase.Header old new (b ∷ []) ep ec ek eo tt (some (cut_of old)) short
+-- the bytes are right, and others are to come
+pub header_kept : (gate : Gate) (piece : List ℕ) (old new : Seen)
+    → new.phase ≡ phase.Cut → new.meter.cut_phase ≡ phase.Header → new.meter.kept ≡ cut_of old ++ piece
+    → open_phase old ≡ phase.Header → 0 < length (cut_of old ++ piece) → length (cut_of old ++ piece) < 4
+    → (differs header_bytes (cut_of old) ≡ false → differs header_bytes (cut_of old ++ piece) ≡ false)
+    → Counts piece old new → Keeps gate piece old new
+header_kept gate piece old new ep ec ek eo some short right c =
+    fixed_kept gate phase.Header old new piece ep ec ek eo tt some short
     (λ so_far a d e. differs_less header_bytes a d (subst (λ x. differs header_bytes x ≡ false) e (right so_far))) c
-  where
-    some : (xs : List ℕ) → 0 < length (xs ++ (b ∷ []))
-    some xs = omega (arith, length-append xs (b ∷ []))

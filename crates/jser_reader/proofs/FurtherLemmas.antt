@@ -1,5 +1,5 @@
 -- Where a reader stands after an item, and after a value that is lent at once: by which items it went on.
-use Rattle.std.proofs.Common.{◌≡◌, ◌⊎◌, inl, inr, ℕ, zero, suc, ◌^◌, false, Option, Some, length-drop, ◌+◌, ◌-◌, ◌<◌, ◌≤◌, List, [], ◌∷◌, ◌++◌, length, take, drop, Ok, refl, sym, ◌∙◌, ap, subst, arith, append_assoc, append-nil, length-append}
+use Rattle.std.proofs.Common.{◌≡◌, ◌⊎◌, inl, inr, ℕ, zero, suc, ◌^◌, false, Some, length-drop, ◌+◌, ◌-◌, ◌<◌, ◌≤◌, List, [], ◌∷◌, ◌++◌, length, take, drop, Ok, refl, sym, ◌∙◌, ap, subst, arith, append_assoc, append-nil, length-append}
 use denote.Bor.{Bor}
 use Rattle.std.proofs.lemmas.List.{take-append-drop, length-take-le}
 use Rattle.std.proofs.Math.Seq.{take-append_seam, drop-append_seam}
@@ -29,7 +29,7 @@ use Rattle.jser_reader.specs.Readers.{Seen}
 use Rattle.jser_reader.specs.ReaderStates.{StandsFor, NextTells}
 use Rattle.jser_reader.specs.Showing.{AllFurther, StepsOn, here}
 use Rattle.jser_reader.specs.Visits.{Spot, bytes_at, EndsCall, IsShown, Shown, shown, AreShown, part_items, string_items, whole_items, whole_size}
-use Rattle.jser_reader.specs.WholesTold.{TellsText, TextEnds, TellsWhole, WholeCases}
+use Rattle.jser_reader.specs.WholesTold.{TellsText, TextEnds, TellsWhole}
 use Rattle.jser_reader.proofs.MemoryLemmas.{are_assigned}
 use Rattle.jser_reader.proofs.PassLemmas.{joined_takes}
 use Rattle.jser_reader.proofs.TextTokens.{IsTextToken, text_told}
@@ -352,20 +352,19 @@ taken_to gate given size old before new after at t st =
     let r = t (bytes_at at) (st.counted, st.within) in
     r.1.0.taken.taken ∙ length-append (bytes_at at) (take size given) ∙ ap (λ n. length (bytes_at at) + n) (length-take-le size given r.0)
 
-pub item_steps : (gate : Gate) (given : List ℕ) (lent : Item) (used : ℕ) (whereabouts : Whereabouts) (old : Seen) (before : Tally) (new : Seen) (after : Tally) → whereabouts ≡ here old new
+pub item_steps : (gate : Gate) (given : List ℕ) (lent : Item) (used : ℕ) (old : Seen) (before : Tally) (new : Seen) (after : Tally)
     → NextTells gate given (Ok (step.Item lent used)) old before new after → TellsItems gate given (Ok (step.Item lent used)) old before new after
-    → 0 < used → used ≤ length given → StepsOn gate given (record { lent = lent; whereabouts = whereabouts } ∷ []) used old before new after
+    → 0 < used → used ≤ length given → StepsOn gate given (record { lent = lent; whereabouts = here old new } ∷ []) used old before new after
 unfolding NextTells TellsItems PassTells
-item_steps gate given lent used whereabouts old before new after is t i some le =
+item_steps gate given lent used old before new after t i some le =
     let tells : PassTells gate given (Some used) old before new after = λ bytes st. let r = t bytes st in (r.1, r.2) in
     let n = length old.table.entries in
     record {
       tells = tells;
       shows = λ at st.
-          subst (λ w. AllFurther gate (all_after at given) at (record { lent = lent; whereabouts = w } ∷ []) (take used given) new after) (sym is)
-          (only_one gate (all_after at given) at (shown lent n new.meter.at) (take used given) new after
+          only_one gate (all_after at given) at (shown lent n new.meter.at) (take used given) new after
           (further gate (all_after at given) at given lent n new.meter.at used new after some le (length-append (bytes_at at) given)
-          (assigned_at gate n at old before (are_assigned gate n old before refl) st) (taken_to gate given used old before new after at tells st) (i at.front at.cut st)));
+          (assigned_at gate n at old before (are_assigned gate n old before refl) st) (taken_to gate given used old before new after at tells st) (i at.front at.cut st));
     }
 
 whole_tells : (gate : Gate) (given : List ℕ) (w : Whole) (old : Seen) (before : Tally) (new : Seen) (after : Tally) → TellsWhole gate given w old before new after
@@ -374,21 +373,17 @@ whole_tells gate given (whole.Reference handle) old before new after t = t.tells
 whole_tells gate given (whole.String text) old before new after t = t.tells
 whole_tells gate given (whole.Owner tag class) old before new after t = t.tells
 
-pub whole_steps : (gate held : Gate) → held ≡ gate → (given : List ℕ) (lent : Option Whole) (w : Whole) (whereabouts : Whereabouts) (old : Seen) (before : Tally) (new : Seen) (after : Tally)
-    → whereabouts ≡ here old new → lent ≡ Some w → WholeCases held given (Ok lent) old before new after → StepsOn gate given (whole_items w whereabouts) (whole_size w) old before new after
-whole_steps gate held same given lent w whereabouts old before new after at_is is t = record {
+pub whole_steps : (gate : Gate) (given : List ℕ) (w : Whole) (old : Seen) (before : Tally) (new : Seen) (after : Tally) → TellsWhole gate given w old before new after
+    → StepsOn gate given (whole_items w (here old new)) (whole_size w) old before new after
+whole_steps gate given w old before new after told = record {
   tells = whole_tells gate given w old before new after told;
   shows = λ at st.
-      subst (λ p. AllFurther gate (all_after at given) at (whole_items w p) (take (whole_size w) given) new after) (sym at_is)
-      (whole_further gate (all_after at given) at given new.meter.at old before new after st (length-append (bytes_at at) given) w
-      (taken_to gate given (whole_size w) old before new after at (whole_tells gate given w old before new after told) st) told);
+      whole_further gate (all_after at given) at given new.meter.at old before new after st (length-append (bytes_at at) given) w
+      (taken_to gate given (whole_size w) old before new after at (whole_tells gate given w old before new after told) st) told;
 }
-  where
-    told : TellsWhole gate given w old before new after
-    told = subst (λ o. WholeCases gate given (Ok o) old before new after) is (subst (λ h. WholeCases h given (Ok lent) old before new after) same t)
 
 -- it takes something, and no more than the piece has
-pub whole_within : (gate : Gate) (given : List ℕ) (w : Whole) (old : Seen) (before : Tally) (new : Seen) (after : Tally) → WholeCases gate given (Ok (Some w)) old before new after
+pub whole_within : (gate : Gate) (given : List ℕ) (w : Whole) (old : Seen) (before : Tally) (new : Seen) (after : Tally) → TellsWhole gate given w old before new after
     → (0 < whole_size w) × (whole_size w ≤ length given)
 whole_within gate given (whole.Reference handle) old before new after t = (omega arith, t.within)
 whole_within gate given (whole.String text) old before new after t = let a = t.within in (omega arith, omega arith)

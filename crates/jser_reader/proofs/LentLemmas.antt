@@ -1,5 +1,5 @@
 -- A value that is lent at once: its items, one after another.
-use Rattle.std.proofs.Common.{◌≡◌, ℕ, suc, ◌+◌, ◌^◌, ◌<◌, ◌≤◌, true, List, [], ◌∷◌, ◌++◌, length, get_or, take, drop, Some, None, Ok, Err, refl, sym, ◌∙◌, ap, subst, arith, length-append, not, false}
+use Rattle.std.proofs.Common.{◌≡◌, ℕ, suc, ◌+◌, ◌^◌, ◌<◌, ◌≤◌, true, List, [], ◌∷◌, ◌++◌, length, get_or, take, drop, Some, Ok, refl, sym, ◌∙◌, ap, subst, arith, length-append, not, false}
 use Rattle.std.proofs.lemmas.List.{length-drop, length-take-le}
 use Rattle.jser_prim.specs.Bytes.{big_bytes}
 use Rattle.jser_table.specs.Entries.{text_entry}
@@ -19,8 +19,6 @@ use Rattle.jser_reader.specs.declared.item.Step.TheVariants as step
 use Rattle.jser_reader.specs.declared.machine.take.taken.Taken.TheVariants as taken
 use Rattle.jser_reader.specs.declared.phase.Phase.{Phase}
 use Rattle.jser_reader.specs.declared.phase.Phase.TheVariants as phase
-use Rattle.jser_reader.specs.declared.refusal.Stop.{Stop}
-use Rattle.jser_reader.specs.declared.refusal.Stop.TheVariants as stop
 use Rattle.jser_reader.specs.declared.tag.ValueTag.{ValueTag}
 use Rattle.jser_reader.specs.declared.tag.ValueTag.TheVariants as value
 use Rattle.jser_reader.specs.declared.tally.Tally.{Tally}
@@ -34,13 +32,9 @@ use Rattle.jser_reader.specs.Tallies.{CountsNext}
 use Rattle.jser_reader.specs.Items.{items_at}
 use Rattle.jser_reader.specs.ItemsMade.{MakesItem, MakesStep}
 use Rattle.jser_reader.specs.ItemsTold.{TokenEnds, TellsItems}
-use Rattle.jser_reader.specs.Passes.{HaltCases, PassTells, Passes, IsQuiet, CanPass}
-use Rattle.jser_reader.specs.ReaderStates.{HasRefused, IsSpent, NextCases, NextTells}
-use Rattle.jser_reader.specs.States.{AnswersStop, stop_after}
+use Rattle.jser_reader.specs.Passes.{PassTells, IsQuiet, CanPass}
 use Rattle.jser_reader.specs.Wholes.{IsPlace, HasPlace, HasNumber, HasText, HasReference, tag_of_owner, placed, with_class, AssignsText}
 use Rattle.jser_reader.specs.WholesTold.{TellsReference, TellsText, TellsString, OwnerCases}
-use Rattle.jser_reader.specs.WholeContents.{StaysWhole}
-use Rattle.jser_reader.proofs.WholeContentLemmas.{whole_stopped}
 use Rattle.jser_reader.proofs.NumberLemmas.{right_handle}
 use Rattle.jser_reader.proofs.TakeLemmas.{counts_bytes, one_taken, takes_back_handle, takes_class_handle}
 use Rattle.jser_reader.proofs.CutLemmas.{four_taken}
@@ -247,18 +241,3 @@ owner_told gate o n flow.On piece old mid new before after g can i first h small
           tt can_k (makes_class_handle last n small spelled);
       tells = (owner_passes gate o n flow.On piece old mid new before after g can i first h small p em told count).tells;
     }
-
--- ---- the machine stops within it
-
-pub halts_next : (gate : Gate) (piece : List ℕ) (why : Stop) (old mid new : Seen) (before after : Tally) → Passes gate piece None old before mid after
-    → AnswersStop why mid new → NextTells gate piece (Err why) old before new after
-unfolding PassTells NextTells HasRefused IsSpent
-halts_next gate piece why old mid new before after h a = λ bytes st.
-    let x = h.tells bytes st in
-    subst (λ y. NextCases gate bytes piece (Err y) new after) (sym a.is) (go mid.meter.stop bytes x.0 refl x.1)
-  where
-    go : (y : Stop) (bytes : List ℕ) → mid.phase ≡ phase.Stopped → mid.meter.stop ≡ y → HaltCases gate bytes piece after y → NextCases gate bytes piece (Err y) new after
-    go (stop.Refused refusal) bytes ep es x =
-        (x.0, x.1, x.2, (a.phase ∙ ep, a.stop_is ∙ ap stop_after es), x.3, subst (StaysWhole gate (bytes ++ take x.0 piece)) (sym (whole_stopped new after (a.phase ∙ ep))) x.4)
-    go stop.OutOfMemory bytes ep es x = (a.phase ∙ ep, a.stop_is ∙ ap stop_after es)
-    go stop.Spent bytes ep es x = x

@@ -9,7 +9,6 @@ pub mod RawWalks
 pub mod TextSteps
 pub mod StreamWalks
 pub mod WholeContentLemmas
-pub mod JoinLemmas
 pub mod TakeLemmas
 pub mod CutLemmas
 pub mod HeaderLemmas

@@ -51,9 +51,6 @@ drop_tail (d ∷ codes) cs c (suc pos) e = drop_tail codes cs c pos e
 size_some : (c : PrimCode) → 0 < size_of c
 size_some c = grind (arith)
 
-abbrev raw_state : Seen → List Frame → (last section values : ℕ) → List PrimCode → List Part
-raw_state r fs last section values cs = prim_parts cs (fields_behind r.table.chains last section values)
-
 raw_ready : (r : Seen) (fs : List Frame) (last section pos values : ℕ) (c : PrimCode) (cs : List PrimCode) → drop (suc pos) (codes_of r.table.chains section) ≡ cs
     → Ready (at_raw r fs last section (suc pos) values (size_of c)) (before_parts r fs (prim_parts (c ∷ cs) (fields_behind r.table.chains last section values)))
 unfolding Ready before_parts

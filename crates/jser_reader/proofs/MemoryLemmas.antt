@@ -29,7 +29,7 @@ use Rattle.jser_reader.specs.Bounds.{FramesAreBounded, AreAssigned, MemoryFree}
 use Rattle.jser_reader.proofs.DepthLemmas.{frames_fit}
 use Rattle.jser_reader.proofs.LabelLemmas.{moment_is}
 use Rattle.jser_reader.proofs.PlaceDepths.{depth_within}
-use Rattle.jser_reader.proofs.JoinLemmas.{kept_none}
+use Rattle.jser_reader.proofs.WalkLemmas.{kept_none}
 use Rattle.jser_reader.proofs.ReaderLemmas.{front_of_front, token_goes_on, take_whole}
 
 -- ---- the token that is open

@@ -27,7 +27,7 @@ use Rattle.jser_reader.specs.declared.machine.take.taken.Taken.TheVariants as ta
 use Rattle.jser_reader.specs.States.{HasLimits, IsWithin, AnswersStop, stop_after, exceeded}
 use Rattle.jser_reader.specs.ReaderStates.{IsItem, HasProgress, StandsFor, HasRefused, IsSpent, NextCases, NextTells, StaysStopped, FinishCases, FinishTells, WholeTold, WholeAtEnd, KeepsWhole}
 use Rattle.jser_reader.specs.WholeContents.{IsWhole, StaysWhole}
-use Rattle.jser_reader.proofs.JoinLemmas.{kept_none}
+use Rattle.jser_reader.proofs.WalkLemmas.{kept_none}
 use Rattle.jser_reader.proofs.StreamWalks.{ends_only_at_top}
 use Rattle.jser_reader.proofs.AnswerLemmas.{truncates}
 use Rattle.jser_reader.proofs.CountLemmas.{new_counts, counts_within, counts_fit}

@@ -30,7 +30,7 @@ use Rattle.jser_reader.specs.Tallies.{may_count, begun_next, with_tag, tally_nex
 use Rattle.jser_reader.specs.Handlers.{StopsWith}
 use Rattle.jser_reader.specs.States.{IsWithin, AnswersStop, stop_after, exceeded}
 use Rattle.jser_reader.specs.Bounds.{SkipMemoryFree}
-use Rattle.jser_reader.specs.ReaderStates.{StandsFor, HasRefused, IsSpent, NextCases, NextTells, SkipCases, SkipTells}
+use Rattle.jser_reader.specs.ReaderStates.{StandsFor, HasRefused, IsSpent, NextCases, NextTells, StopCases, SkipTells}
 use Rattle.jser_reader.specs.ItemsTold.{StandsIn}
 use Rattle.jser_reader.specs.Streams.{AreRefused}
 use Rattle.jser_reader.specs.Passes.{bytes_passed, HaltCases, PassCases, PassTells, InsideCases, PassInside, Passes, passed_of, HasPassed, IsQuiet, CanPass}
@@ -376,18 +376,28 @@ passes_skip gate piece used old new before after h all = λ bytes st.
     let n : used ≡ length piece = omega arith in
     subst (λ xs. StandsFor gate (bytes ++ xs) new after) (ap (λ k. take k piece) n ∙ take_whole piece) x.1
 
+pub halted : (gate : Gate) (piece : List ℕ) (why : Stop) (old mid new : Seen) (before after : Tally) → Passes gate piece None old before mid after
+    → AnswersStop why mid new → (bytes : List ℕ) → StandsFor gate bytes old before → StopCases gate bytes piece why new after
+unfolding PassTells HasRefused IsSpent
+halted gate piece why old mid new before after h a bytes st =
+    let x = h.tells bytes st in
+    subst (λ y. StopCases gate bytes piece y new after) (sym a.is) (go mid.meter.stop x.0 refl x.1)
+  where
+    go : (y : Stop) → mid.phase ≡ phase.Stopped → mid.meter.stop ≡ y → HaltCases gate bytes piece after y → StopCases gate bytes piece y new after
+    go (stop.Refused refusal) ep es x =
+        (x.0, x.1, x.2, (a.phase ∙ ep, a.stop_is ∙ ap stop_after es), x.3, subst (StaysWhole gate (bytes ++ take x.0 piece)) (sym (whole_stopped new after (a.phase ∙ ep))) x.4)
+    go stop.OutOfMemory ep es x = (a.phase ∙ ep, a.stop_is ∙ ap stop_after es)
+    go stop.Spent ep es x = x
+
 pub halts_skip : (gate : Gate) (piece : List ℕ) (why : Stop) (old mid new : Seen) (before after : Tally) → Passes gate piece None old before mid after
     → AnswersStop why mid new → SkipTells gate piece (Err why) old before new after
-unfolding PassTells SkipTells HasRefused IsSpent
-halts_skip gate piece why old mid new before after h a = λ bytes st.
-    let x = h.tells bytes st in
-    subst (λ y. SkipCases gate bytes piece (Err y) new after) (sym a.is) (go mid.meter.stop bytes x.0 refl x.1)
-  where
-    go : (y : Stop) (bytes : List ℕ) → mid.phase ≡ phase.Stopped → mid.meter.stop ≡ y → HaltCases gate bytes piece after y → SkipCases gate bytes piece (Err y) new after
-    go (stop.Refused refusal) bytes ep es x =
-        (x.0, x.1, x.2, (a.phase ∙ ep, a.stop_is ∙ ap stop_after es), x.3, subst (StaysWhole gate (bytes ++ take x.0 piece)) (sym (whole_stopped new after (a.phase ∙ ep))) x.4)
-    go stop.OutOfMemory bytes ep es x = (a.phase ∙ ep, a.stop_is ∙ ap stop_after es)
-    go stop.Spent bytes ep es x = x
+unfolding SkipTells
+halts_skip = halted
+
+pub halts_next : (gate : Gate) (piece : List ℕ) (why : Stop) (old mid new : Seen) (before after : Tally) → Passes gate piece None old before mid after
+    → AnswersStop why mid new → NextTells gate piece (Err why) old before new after
+unfolding NextTells
+halts_next = halted
 
 pub halts_memory : (gate : Gate) (piece : List ℕ) (why : Stop) (old mid new : Seen) (before between : Tally) → Passes gate piece None old before mid between
     → AnswersStop why mid new → SkipMemoryFree gate piece (Err why) old before

@@ -1,5 +1,5 @@
 -- What is shown at once, after nothing else came, and under the gate of the call.
-use Rattle.std.proofs.Common.{◌≡◌, ℕ, ◌<◌, ◌≤◌, Option, Some, None, List, [], ◌∷◌, length, Ok, Err, refl, sym, ◌∙◌, subst}
+use Rattle.std.proofs.Common.{◌≡◌, ℕ, List, [], ◌∷◌, Result, Ok, Err, sym, subst}
 use Rattle.jser_verdict.specs.Gates.{Gate}
 use Rattle.jser_reader.specs.declared.item.Field.{Field}
 use Rattle.jser_reader.specs.declared.item.Item.{Item}
@@ -16,9 +16,7 @@ use Rattle.jser_reader.specs.Readers.{Seen}
 use Rattle.jser_reader.specs.ReaderStates.{NextTells}
 use Rattle.jser_reader.specs.Showing.{StepsOn, here, ShowingCases}
 use Rattle.jser_reader.specs.Visits.{whole_items, whole_size, field_items, field_size}
-use Rattle.jser_reader.specs.WholesTold.{WholeCases}
 use Rattle.jser_reader.proofs.FieldFurther.{field_steps}
-use Rattle.jser_reader.proofs.FurtherLemmas.{item_steps, whole_steps}
 
 -- ---- where it is taken
 
@@ -27,25 +25,12 @@ pub field_shown : (gate : Gate) (given : List ℕ) (f : Field) (old : Seen) (bef
 field_shown gate given f old before new after t same =
     subst (λ y. StepsOn gate given (field_items f (here old new)) (field_size f) old before new y) (sym same) (field_steps gate given f old new before t)
 
-pub whole_shown : (gate held : Gate) → held ≡ gate → (given : List ℕ) (lent : Option Whole) (w : Whole) (old : Seen) (before : Tally) (first : Seen) (between : Tally) (new : Seen) (after : Tally)
-    → first ≡ old → between ≡ before → lent ≡ Some w → WholeCases held given (Ok lent) first between new after
-    → StepsOn gate given (whole_items w (here old new)) (whole_size w) old before new after
-whole_shown gate held same given lent w old before first between new after f b is t =
-    whole_steps gate held same given lent w (here old new) old before new after refl is
-    (subst (λ r. WholeCases held given (Ok lent) r before new after) f (subst (λ y. WholeCases held given (Ok lent) first y new after) b t))
-
-pub item_shown : (gate held last : Gate) → held ≡ gate → last ≡ gate → (given : List ℕ) (whole : Option Whole) (lent : Item) (used : ℕ) (old : Seen) (before : Tally) (first : Seen) (between : Tally)
-    (second : Seen) (then : Tally) (new : Seen) (after : Tally) → first ≡ old → between ≡ before → whole ≡ None → WholeCases held given (Ok whole) first between second then
-    → NextTells last given (Ok (step.Item lent used)) second then new after → TellsItems last given (Ok (step.Item lent used)) second then new after
-    → 0 < used → used ≤ length given → StepsOn gate given (record { lent = lent; whereabouts = here old new } ∷ []) used old before new after
-item_shown gate held last same too given whole lent used old before first between second then new after f b is w n i some le =
-    let e : (second ≡ first) × (then ≡ between) = subst (λ o. WholeCases held given (Ok o) first between second then) is w in
-    item_steps gate given lent used (here old new) old before new after refl
-    (subst (λ h. NextTells h given (Ok (step.Item lent used)) old before new after) too
-    (subst (λ r. NextTells last given (Ok (step.Item lent used)) r before new after) (e.0 ∙ f) (subst (λ y. NextTells last given (Ok (step.Item lent used)) second y new after) (e.1 ∙ b) n)))
-    (subst (λ h. TellsItems h given (Ok (step.Item lent used)) old before new after) too
-    (subst (λ r. TellsItems last given (Ok (step.Item lent used)) r before new after) (e.0 ∙ f) (subst (λ y. TellsItems last given (Ok (step.Item lent used)) second y new after) (e.1 ∙ b) i)))
-    some le
+-- Nothing was taken before it.
+pub shown_after : (gate held : Gate) → held ≡ gate → (given : List ℕ) (result : Result Showing Stop) (old : Seen) (before : Tally) (first : Seen) (between : Tally) (new : Seen) (after : Tally)
+    → first ≡ old → between ≡ before → ShowingCases held given result first between new after → ShowingCases gate given result old before new after
+shown_after gate held same given result old before first between new after f b t =
+    subst (λ h. ShowingCases h given result old before new after) same
+    (subst (λ r. ShowingCases held given result r before new after) f (subst (λ y. ShowingCases held given result first y new after) b t))
 
 -- ---- where it is shown
 

@@ -7,8 +7,8 @@ use Rattle.jser_table.specs.Chains.{chain_in}
 use Rattle.jser_table.specs.Entries.{TableEntry, text_entry, other_entry, pending_entry, is_closed, is_pending, chain_at, chain_of, closed_entry}
 use Rattle.jser_table.specs.Tables.{IsClass, parent_chain, closed_under}
 use Rattle.jser_reading.specs.Moments.{closing}
-use Rattle.jser_reading.specs.Goals.{State, settle, made_goal}
-use Rattle.jser_verdict.specs.Reasons.{Reason, handle_space}
+use Rattle.jser_reading.specs.Goals.{settle, made_goal}
+use Rattle.jser_verdict.specs.Reasons.{handle_space}
 use Rattle.jser_verdict.specs.Verdicts.{told_if}
 use Rattle.jser_reader.specs.declared.machine.flow.Flow.{Flow}
 use Rattle.jser_reader.specs.declared.machine.flow.Flow.TheVariants as flow
@@ -57,15 +57,15 @@ closed_is T n h = go (slice_get T n) h
     go (Some pending_entry) h = absurd (cc)
     go (Some (closed_entry chain)) h = (chain, refl)
 
-pub not_there : (T : List TableEntry) (C : List (List Layer)) (n : ℕ) (s : State) (told : Option Reason) (b : Flow) (old new : Seen) → IsTrue (is_closed (slice_get T n)) → IsClass C (slice_get T n) class.NotThere → Tells told s b old new
-not_there T C n s told b old new h t = let x = closed_is T n h in absurd (let e = x.1 in cc)
+pub not_there : (T : List TableEntry) (C : List (List Layer)) (n : ℕ) → IsTrue (is_closed (slice_get T n)) → IsClass C (slice_get T n) class.NotThere → ⊥
+not_there T C n h t = let x = closed_is T n h in let e = x.1 in cc
 
-pub not_class : (T : List TableEntry) (C : List (List Layer)) (n : ℕ) (s : State) (told : Option Reason) (b : Flow) (old new : Seen) → IsTrue (is_closed (slice_get T n)) → IsClass C (slice_get T n) class.NoClass → Tells told s b old new
-not_class T C n s told b old new h (inl t) = let x = closed_is T n h in absurd (let e = x.1 in cc)
-not_class T C n s told b old new h (inr t) = let x = closed_is T n h in absurd (let e = x.1 in cc)
+pub not_class : (T : List TableEntry) (C : List (List Layer)) (n : ℕ) → IsTrue (is_closed (slice_get T n)) → IsClass C (slice_get T n) class.NoClass → ⊥
+not_class T C n h (inl t) = let x = closed_is T n h in let e = x.1 in cc
+not_class T C n h (inr t) = let x = closed_is T n h in let e = x.1 in cc
 
-pub not_open : (T : List TableEntry) (C : List (List Layer)) (n : ℕ) (s : State) (told : Option Reason) (b : Flow) (old new : Seen) → IsTrue (is_closed (slice_get T n)) → IsClass C (slice_get T n) class.Open → Tells told s b old new
-not_open T C n s told b old new h t = let x = closed_is T n h in absurd (let e = x.1 in cc)
+pub not_open : (T : List TableEntry) (C : List (List Layer)) (n : ℕ) → IsTrue (is_closed (slice_get T n)) → IsClass C (slice_get T n) class.Open → ⊥
+not_open T C n h t = let x = closed_is T n h in let e = x.1 in cc
 
 -- the descriptor on top has been closed: its entry, and what waited for it
 

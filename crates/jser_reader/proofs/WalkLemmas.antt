@@ -9,6 +9,8 @@ use Rattle.jser_reading.specs.Scanner.{Verdict, more, good, bad, VerdictOn, IsUn
 use Rattle.jser_verdict.specs.Reasons.{Reason, turn}
 use Rattle.jser_verdict.specs.Gates.{Gate}
 use Rattle.jser_verdict.specs.Verdicts.{reason_at, by_reason, found_token, verdict}
+use Rattle.jser_reader.specs.Readers.{Seen}
+use Rattle.jser_reader.specs.Walks.{Stands, Keeps}
 
 -- the walk over some bytes, and then others
 pub walk_on : (v : VerdictOn) (bytes others : List ℕ) (s t : State) (p cut : List ℕ) → walk v s p bytes ≡ ended t cut
@@ -91,3 +93,12 @@ pub verdict_bad : (g : Gate) (l : Label) (bytes : List ℕ) (r : Reason) → rea
     → verdict g l bytes ≡ bad (turn r)
 verdict_bad g l bytes r e =
     ap (λ o. by_reason o (cond (nat_lt (length bytes) (size_in l.position bytes)) more (found_token (token_in l.position bytes)))) e
+
+-- no byte was taken
+pub kept_none : (gate : Gate) (r : Seen) → Keeps gate [] r r
+unfolding Keeps
+kept_none gate r = λ s cut st. record {
+  walks = ap (λ c. ended s c) (sym (append-nil cut));
+  stands = subst (Stands gate r (settled s)) (sym (append-nil cut)) st;
+  at = omega arith;
+}

@@ -128,10 +128,6 @@ can_go_on piece used r new can le em =
       all_bytes = bytes_on used piece can.all_bytes;
     }
 
-pub farther_goes_on : (piece : List ℕ) (used : ℕ) (r far new : Seen) → CanPass r piece → used ≤ length piece → far ≡ farther r used → Comes far new (after_value far)
-    → CanPass new (drop used piece)
-farther_goes_on piece used r far new can le ef h = can_go_on piece used r new can le (h.meter ∙ ap (λ m. moved m.meter) ef)
-
 -- ---- a value ends
 
 -- the end of a value, said of a machine that was as far and has the same

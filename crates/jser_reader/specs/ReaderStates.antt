@@ -40,17 +40,21 @@ abbrev pub IsItem : (used : ℕ) → Step → Type 0
 IsItem used (step.Item item count) = count ≡ used
 IsItem used step.More = ⊥
 
+-- why it stopped within a piece: it refuses the bytes up to the deciding one, which lies in the piece, and knows how many of all
+-- bytes are whole contents, whatever comes; or memory ran out
+abbrev pub StopCases : Gate → (bytes piece : List ℕ) → Stop → Seen → Tally → Type 0
+StopCases gate bytes piece (stop.Refused refusal) r tally =
+    (used : ℕ) × (used ≤ length piece) × AreRefused gate (bytes ++ take used piece) refusal × HasRefused refusal r × (0 < used)
+    × StaysWhole gate (bytes ++ take used piece) (whole_of r tally)
+StopCases gate bytes piece stop.OutOfMemory r tally = IsSpent r
+StopCases gate bytes piece stop.Spent r tally = ⊥
+
 -- Where it stood for `bytes` and was given a piece, it answers an item and stands for some bytes of the piece more; or it
--- took the whole piece; or it refuses the bytes up to the deciding one, which lies in the piece, and knows how many of all
--- bytes are whole contents, whatever comes; or memory ran out.
+-- took the whole piece; or it stopped.
 abbrev pub NextCases : Gate → (bytes piece : List ℕ) → Result Step Stop → Seen → Tally → Type 0
 NextCases gate bytes piece (Ok (step.Item item used)) r tally = (0 < used) × (used ≤ length piece) × StandsFor gate (bytes ++ take used piece) r tally
 NextCases gate bytes piece (Ok step.More) r tally = StandsFor gate (bytes ++ piece) r tally
-NextCases gate bytes piece (Err (stop.Refused refusal)) r tally =
-    (used : ℕ) × (used ≤ length piece) × AreRefused gate (bytes ++ take used piece) refusal × HasRefused refusal r × (0 < used)
-    × StaysWhole gate (bytes ++ take used piece) (whole_of r tally)
-NextCases gate bytes piece (Err stop.OutOfMemory) r tally = IsSpent r
-NextCases gate bytes piece (Err stop.Spent) r tally = ⊥
+NextCases gate bytes piece (Err why) r tally = StopCases gate bytes piece why r tally
 
 unfoldable pub NextTells : Gate → (piece : List ℕ) → Result Step Stop → Seen → Tally → Seen → Tally → Type 0
 NextTells gate piece result old before new after =
@@ -64,11 +68,7 @@ HasProgress piece step.More = Unit {0}
 -- What a whole piece comes to, with no item lent.
 abbrev pub SkipCases : Gate → (bytes piece : List ℕ) → Result (Unit {0}) Stop → Seen → Tally → Type 0
 SkipCases gate bytes piece (Ok _) r tally = StandsFor gate (bytes ++ piece) r tally
-SkipCases gate bytes piece (Err (stop.Refused refusal)) r tally =
-    (used : ℕ) × (used ≤ length piece) × AreRefused gate (bytes ++ take used piece) refusal × HasRefused refusal r × (0 < used)
-    × StaysWhole gate (bytes ++ take used piece) (whole_of r tally)
-SkipCases gate bytes piece (Err stop.OutOfMemory) r tally = IsSpent r
-SkipCases gate bytes piece (Err stop.Spent) r tally = ⊥
+SkipCases gate bytes piece (Err why) r tally = StopCases gate bytes piece why r tally
 
 unfoldable pub SkipTells : Gate → (piece : List ℕ) → Result (Unit {0}) Stop → Seen → Tally → Seen → Tally → Type 0
 SkipTells gate piece result old before new after =

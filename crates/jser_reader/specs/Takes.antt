@@ -1,6 +1,7 @@
 -- What the functions that take bytes do: the bytes are counted, and the token that they end is judged.
-use Rattle.std.specs.Prelude.{◌≡◌, ℕ, ◌+◌, ◌<◌, ◌≤◌, List, [], ◌∷◌, ◌++◌, length, take, Option, Some, None}
+use Rattle.std.specs.Prelude.{◌≡◌, ℕ, ◌+◌, ◌<◌, ◌≤◌, false, List, [], ◌∷◌, ◌++◌, length, take}
 use Rattle.jser_prim.specs.Bytes.{big_bytes}
+use Rattle.jser_verdict.specs.BytesSoFar.{differs}
 use Rattle.jser_verdict.specs.Gates.{Gate}
 use Rattle.jser_reader.specs.declared.machine.flow.Flow.{Flow}
 use Rattle.jser_reader.specs.declared.machine.flow.Flow.TheVariants as flow
@@ -11,7 +12,7 @@ use Rattle.jser_reader.specs.declared.phase.Phase.TheVariants as phase
 use Rattle.jser_reader.specs.Readers.{Meter, Seen}
 use Rattle.jser_reader.specs.Steps.{after_value}
 use Rattle.jser_reader.specs.Handlers.{Comes}
-use Rattle.jser_reader.specs.Walks.{size_of_phase, Takes, Keeps, Counts, open_phase, cut_of}
+use Rattle.jser_reader.specs.Walks.{size_of_phase, header_bytes, Takes, Keeps, Counts, open_phase, cut_of}
 
 -- so many bytes more were counted
 abbrev pub counted_on : Meter → ℕ → Meter
@@ -90,20 +91,11 @@ TakesFromFor gate result piece old new = TakenCases gate result piece old new
 abbrev pub TakesFrom : Taken → List ℕ → Seen → Seen → Type 0
 TakesFrom result piece old new = (gate : Gate) → TakesFromFor gate result piece old new
 
--- one byte of the header: it is wrong or the last one, or others are to come
-abbrev pub HeaderCases : Option Flow → ℕ → Seen → Seen → Type 0
-HeaderCases (Some found) byte old new = TakesByte byte found old new
-HeaderCases None byte old new =
-    ((gate : Gate) → Keeps gate (byte ∷ []) old new) × (open_phase new ≡ phase.Header) × (new.meter.at ≡ old.meter.at + 1)
-
-unfoldable pub TakesHeaderByte : Option Flow → ℕ → Seen → Seen → Type 0
-TakesHeaderByte result byte old new = HeaderCases result byte old new
-
--- so many bytes of the piece were kept, and the header is open still
-pub record HeaderOn (piece : List ℕ) (count : ℕ) (old now : Seen) : Type 0 where
-  pub keeps : (gate : Gate) → Keeps gate (take count piece) old now
-  pub is_open : open_phase now ≡ phase.Header
-  pub at : now.meter.at ≡ old.meter.at + count
+-- After so many bytes of the header, all of them right, so many at the front of the piece are right too.
+pub record AreRight (place : ℕ) (piece : List ℕ) (count : ℕ) : Type 0 where
+  pub within : count ≤ length piece
+  pub most : place + count ≤ 4
+  pub right : (kept : List ℕ) → length kept ≡ place → differs header_bytes kept ≡ false → differs header_bytes (kept ++ take count piece) ≡ false
 
 -- what came of a handler's answer
 abbrev pub taken_by : ℕ → Flow → Taken

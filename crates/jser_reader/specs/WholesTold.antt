@@ -1,6 +1,6 @@
 -- What a reader says of a value that it lends at once: the same as if its items were lent one after another, and which
 -- handles are assigned between them.
-use Rattle.std.specs.Prelude.{◌≡◌, ℕ, suc, ◌+◌, ◌≤◌, false, List, [], length, take, drop, Option, Some, None, Result, Ok, Err}
+use Rattle.std.specs.Prelude.{◌≡◌, ℕ, suc, ◌+◌, ◌≤◌, false, List, [], length, take, drop, Some, None, Ok}
 use Rattle.jser_grammar.specs.Wire.{TC_REFERENCE, TC_STRING}
 use Rattle.jser_reading.specs.Labels.{Label, Piece}
 use Rattle.jser_reading.specs.ComesNext.{ComesNext}
@@ -13,13 +13,11 @@ use Rattle.jser_reader.specs.declared.item.Whole.{Whole}
 use Rattle.jser_reader.specs.declared.item.Whole.TheVariants as whole
 use Rattle.jser_reader.specs.declared.reader.lent.Lent.{Lent}
 use Rattle.jser_reader.specs.declared.reader.lent.Lent.TheVariants as lent
-use Rattle.jser_reader.specs.declared.refusal.Stop.{Stop}
 use Rattle.jser_reader.specs.declared.tally.Tally.{Tally}
 use Rattle.jser_reader.specs.Bounds.{AreAssigned}
 use Rattle.jser_reader.specs.Items.{items_at, text_items}
 use Rattle.jser_reader.specs.ItemsTold.{StandsIn, TokenEnds, TellsItems}
 use Rattle.jser_reader.specs.Passes.{PassTells, Passes}
-use Rattle.jser_reader.specs.ReaderStates.{NextTells}
 use Rattle.jser_reader.specs.Readers.{Seen}
 
 -- a reference: its tag, and then its handle
@@ -70,13 +68,7 @@ TellsWhole gate given (whole.Reference handle) old before new after = TellsRefer
 TellsWhole gate given (whole.String text) old before new after = TellsString gate given text.now old before new after
 TellsWhole gate given (whole.Owner tag class) old before new after = TellsOwner gate given tag class old before new after
 
--- a value was lent; or nothing was done; or what comes next is refused
-abbrev pub WholeCases : Gate → (given : List ℕ) → Result (Option Whole) Stop → Seen → Tally → Seen → Tally → Type 0
-WholeCases gate given (Ok (Some w)) old before new after = TellsWhole gate given w old before new after
-WholeCases gate given (Ok None) old before new after = (new ≡ old) × (after ≡ before)
-WholeCases gate given (Err why) old before new after = NextTells gate given (Err why) old before new after
-
--- what the machine lends, which says later why it has stopped
+-- a value was lent; or nothing was done; or the machine has stopped, which says later why
 abbrev pub LentCases : Gate → (given : List ℕ) → Lent → Seen → Tally → Seen → Tally → Type 0
 LentCases gate given (lent.Value w) old before new after = TellsWhole gate given w old before new after
 LentCases gate given lent.Nothing old before new after = (new ≡ old) × (after ≡ before)

@@ -64,9 +64,9 @@ impl Machine {
         self.owner = owner;
         match self.table.class_at(number) {
             Class::Closed(chain) => self.begin_owner(chain),
-            Class::NotThere => self.ended(),
-            Class::NoClass => self.ended(),
-            Class::Open => self.ended(),
+            Class::NotThere => unreachable!(),
+            Class::NoClass => unreachable!(),
+            Class::Open => unreachable!(),
         }
     }
 

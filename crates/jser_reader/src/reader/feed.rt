@@ -9,7 +9,9 @@ ghost use Rattle.jser_reader.specs.Visits.{whole_size};
 use crate::gate::Gate;
 use crate::item::{Field, Item, Step, Whole};
 use crate::machine::wholes::size_of_field;
+use crate::phase::Phase;
 use crate::reader::Reader;
+use crate::reader::lent::Lent;
 use crate::refusal::Stop;
 use crate::visit::{FeedFault, Visit, Whereabouts};
 
@@ -51,6 +53,20 @@ impl<G: Gate> Reader<G> {
         self.machine.lend_field(piece)
     }
 
+    /// Takes an item of the front of the piece, which is shown as it is.
+    #[inline(always)]
+    fn show_item<'p>(&mut self, piece: &'p [u8]) -> Result<Showing<'p>, Stop>
+        ensures tells { ShowingCases (G.told self.old.gate) piece.now result self.old.machine self.old.tally self.new.machine self.new.tally }
+        ensures progress { IfOk result (λ showing. ShowingSome piece.now showing) }
+        ensures gate { self.new.gate ≡ self.old.gate }
+    {
+        match self.next(piece) {
+            Err(stop) => Err(stop),
+            Ok(Step::More) => Ok(Showing::More),
+            Ok(Step::Item { item, used }) => Ok(Showing::Item { item, used }),
+        }
+    }
+
     /// Takes some of the front of the piece, which is shown at once: a declared field or a value that is whole there, or an
     /// item. Each kind of visitor has a copy of it (`V`), which is compiled into its loop: as one function for all it took some
     /// 80 instructions more for each string.
@@ -60,17 +76,17 @@ impl<G: Gate> Reader<G> {
         ensures progress { IfOk result (λ showing. ShowingSome piece.now showing) }
         ensures gate { self.new.gate ≡ self.old.gate }
     {
-        match self.next_field(piece) {
-            Some(field) => Ok(Showing::Field(field)),
-            None => match self.next_whole(piece) {
-                Err(stop) => Err(stop),
-                Ok(Some(whole)) => Ok(Showing::Whole(whole)),
-                Ok(None) => match self.next(piece) {
-                    Err(stop) => Err(stop),
-                    Ok(Step::More) => Ok(Showing::More),
-                    Ok(Step::Item { item, used }) => Ok(Showing::Item { item, used }),
-                },
+        match self.machine.phase() {
+            Phase::TypeCode => match self.next_field(piece) {
+                Some(field) => Ok(Showing::Field(field)),
+                None => self.show_item(piece),
             },
+            Phase::Top | Phase::Note | Phase::Value => match self.lend_whole(piece) {
+                Lent::Value(whole) => Ok(Showing::Whole(whole)),
+                Lent::Stopped => Err(self.machine.answer()),
+                Lent::Nothing => self.show_item(piece),
+            },
+            _ => self.show_item(piece),
         }
     }
 

@@ -6,7 +6,7 @@ ghost use Rattle.jser_verdict.specs.Gates.{Gate as ToldGate, IsGate};
 ghost use Rattle.jser_reader.specs.Passes.{CanPass};
 ghost use Rattle.jser_reader.specs.Tags.{view_tag};
 ghost use Rattle.jser_reader.specs.Wholes.{IsPlace, HasPlace, HasReference, tag_of_owner};
-ghost use Rattle.jser_reader.specs.WholesTold.{LentCases, OwnerCases, WholeCases};
+ghost use Rattle.jser_reader.specs.WholesTold.{LentCases, OwnerCases};
 ghost use Rattle.jser_reading.specs.TokenBytes.{tag_byte};
 
 use crate::frame::Owner;
@@ -16,32 +16,9 @@ use crate::machine::flow::Flow;
 use crate::machine::wholes::{number_after, reference_after, text_after, text_in};
 use crate::phase::Phase;
 use crate::reader::Reader;
-use crate::refusal::Stop;
 use jser_grammar::wire::{TC_ARRAY, TC_CLASS, TC_ENUM, TC_OBJECT, TC_REFERENCE, TC_STRING};
 
 impl<G: Gate> Reader<G> {
-    /// Takes a value that comes next, where all its bytes are at the front of the piece, and lends it: a reference, a string of less
-    /// than 64 KiB, or the beginning of what has a class, where that is a reference. It is taken in one step, as if `next` lent its
-    /// items one after another.
-    ///
-    /// `None` where something else comes next, or not all of these bytes are there; for a reference or a string also where it is
-    /// refused or memory runs out. Nothing is done then, and `next` says what comes.
-    ///
-    /// # Errors
-    ///
-    /// As `next`, where a class is refused or memory runs out.
-    #[inline(always)]
-    pub(super) fn next_whole<'p>(&mut self, piece: &'p [u8]) -> Result<Option<Whole<'p>>, Stop>
-        ensures tells { WholeCases (G.told self.old.gate) piece.now result self.old.machine self.old.tally self.new.machine self.new.tally }
-        ensures gate { self.new.gate ≡ self.old.gate }
-    {
-        match self.lend_whole(piece) {
-            Lent::Value(whole) => Ok(Some(whole)),
-            Lent::Nothing => Ok(None),
-            Lent::Stopped => Err(self.machine.answer()),
-        }
-    }
-
     /// Takes a reference, its tag and its handle, and lends the handle; or does nothing.
     #[inline(always)]
     fn lend_reference<'p>(&mut self, piece: &'p [u8]) -> Lent<'p>
@@ -128,9 +105,12 @@ impl<G: Gate> Reader<G> {
         }
     }
 
-    /// Takes a value that is lent at once, or does nothing.
+    /// Takes a value that comes next, where all its bytes are at the front of the piece, and lends it: a reference, a string of less
+    /// than 64 KiB, or the beginning of what has a class, where that is a reference. It is taken in one step, as if `next` lent its
+    /// items one after another. Where something else comes next, or not all of these bytes are there, nothing is done; so too where a
+    /// reference or a string is refused or memory runs out.
     #[inline(always)]
-    fn lend_whole<'p>(&mut self, piece: &'p [u8]) -> Lent<'p>
+    pub(super) fn lend_whole<'p>(&mut self, piece: &'p [u8]) -> Lent<'p>
         ensures tells { (gate : ToldGate) → IsGate gate → LentCases gate piece.now result self.old.machine self.old.tally self.new.machine self.new.tally }
         ensures gate { self.new.gate ≡ self.old.gate }
     {
@@ -164,13 +144,13 @@ impl<G: Gate> Reader<G> {
     }
 }
 
-/// What a machine lends at once.
+/// What is lent at once.
 #[derive(Clone, Copy)]
-pub(crate) enum Lent<'p> {
+pub(super) enum Lent<'p> {
     /// A value.
     Value(Whole<'p>),
     /// Nothing; nothing was done.
     Nothing,
-    /// The machine has stopped.
+    /// Nothing; the machine has stopped.
     Stopped,
 }
