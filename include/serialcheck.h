@@ -62,7 +62,7 @@ typedef struct {
     uint64_t to;       /* of NO how many bytes decide: no admitted stream begins with these (of Truncated: all, which are none) */
     uint64_t bytes;    /* of YES the counts of the stream: its bytes, */
     uint64_t contents; /* its top-level contents, */
-    uint64_t refs;     /* its references, */
+    uint64_t refs;     /* its places, as maxrefs counts them: values and superclasses, */
     uint64_t depth;    /* its depth, */
     uint64_t handles;  /* and its handles */
     uint64_t name_from; /* of NO where the bytes of the class name stand that was refused (ClassRejected, ClassUnmatched), */
