@@ -100,6 +100,8 @@ public final class Application extends HttpServlet {
                 return read(request.getInputStream());
             case "unzip":
                 return read(new GZIPInputStream(request.getInputStream()));
+            case "unzip-whole":
+                return read(new GZIPInputStream(new ByteArrayInputStream(request.getInputStream().readAllBytes())));
             case "swallow":
             case "swallow-late":
                 return swallowed(request);

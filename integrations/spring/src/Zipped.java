@@ -73,6 +73,12 @@ final class Zipped {
             return count;
         }
 
+        /** More may come: a decompressor that is told of no more stops behind a part, though the next one is on its way. */
+        @Override
+        public int available() {
+            return 1;
+        }
+
         /** The input from its beginning. */
         InputStream again() {
             return new SequenceInputStream(new ByteArrayInputStream(read.toByteArray()), in);
