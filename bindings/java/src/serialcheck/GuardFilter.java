@@ -24,6 +24,8 @@ final class GuardFilter {
     /** What the file was when it was read, and at the last look. */
     private String read;
     private String seen;
+    /** Why it could not be read at the last look, or null: it is tried again, since its rights are no part of what it was. */
+    private String unread;
     private volatile long looked;
     // One that another took the place of is not closed, since a check may use it; the cleaner lets it go.
     private volatile Filter filter;
@@ -64,21 +66,29 @@ final class GuardFilter {
         } catch (IOException gone) {
             now = gone.toString();
         }
-        if (!now.equals(read) && (now.equals(seen) || isOld())) {
-            read = now;
-            takeFile();
+        if (now.equals(read)) {
+            unread = null;
+        } else if (now.equals(seen) || isOld()) {
+            takeFile(now);
         }
         seen = now;
     }
 
-    private void takeFile() {
+    private void takeFile(String now) {
+        String before = unread;
+        unread = null;
         try {
             filter = readFile();
+            read = now;
             log.accept("serialcheck reads the filter of " + file + " from now on");
         } catch (IllegalArgumentException faulty) {
+            read = now;
             log.accept("serialcheck keeps the filter that it has: " + faulty.getMessage() + ", in " + file);
-        } catch (IOException unread) {
-            log.accept("serialcheck keeps the filter that it has: " + unread);
+        } catch (IOException failed) {
+            unread = failed.toString();
+            if (!unread.equals(before)) {
+                log.accept("serialcheck keeps the filter that it has: " + unread);
+            }
         }
     }
 
