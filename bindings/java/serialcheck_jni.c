@@ -106,16 +106,16 @@ CALL(jlong, filterRead)(JNIEnv *env, jclass class, jbyteArray file, jbyteArray m
 CALL(jstring, filterCheck)(JNIEnv *env, jclass class, jlong filter, jbyteArray bytes, jint from, jint len, jlongArray out) {
     (void)class;
     serialcheck_answer answer = {.status = SERIALCHECK_SPENT};
-    uint8_t room[SMALL_ROOM];
+    uint8_t room[SMALL_ROOM], *copy = NULL;
     jstring name = NULL;
     if (filter) {
-        uint8_t *copy = copied(env, bytes, from, len, room, sizeof room);
+        copy = copied(env, bytes, from, len, room, sizeof room);
         answer.status = SERIALCHECK_NO_MEMORY;
-        if (copy && serialcheck_filter_check((serialcheck_filter *)(intptr_t)filter, copy, (size_t)len, &answer) == SERIALCHECK_NO)
-            name = class_of(env, copy, (size_t)len, &answer);
-        if (copy != room) free(copy);
+        if (copy) serialcheck_filter_check((serialcheck_filter *)(intptr_t)filter, copy, (size_t)len, &answer);
     }
-    hand_out(env, out, &answer);
+    hand_out(env, out, &answer); // before the name: where the heap has no room for it, an exception is under way
+    if (answer.status == SERIALCHECK_NO) name = class_of(env, copy, (size_t)len, &answer);
+    if (copy != room) free(copy);
     return name;
 }
 
