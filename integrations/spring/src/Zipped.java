@@ -23,12 +23,12 @@ final class Zipped {
 
     /** The body as it came, where what it spells is admitted or is no stream. */
     static InputStream judged(Guard guard, Supplier<String> what, InputStream in) throws IOException {
-        Kept front = new Kept(in);
+        Kept front = new Kept(in, guard.most());
         if (!isStreamInside(front)) {
             return front.again();
         }
         // All of it, before it is inflated: where one part of it ends and the next has not come, a decompressor may stop.
-        Kept whole = new Kept(front.again());
+        Kept whole = new Kept(front.again(), Integer.MAX_VALUE);
         byte[] zipped = guard.read(what, whole);
         if (zipped != null) {
             byte[] bytes = guard.inflate(what, () -> new GZIPInputStream(new ByteArrayInputStream(zipped)));
@@ -39,36 +39,39 @@ final class Zipped {
         return whole.again();
     }
 
-    /** Whether the first bytes that come out of it are those of a stream; it reads no further than it must. */
-    private static boolean isStreamInside(InputStream in) throws IOException {
+    /** Whether the first bytes that come out of it are those of a stream, or could be: it reads no further than it must, or may. */
+    private static boolean isStreamInside(Kept in) throws IOException {
         try {
             byte[] front = new GZIPInputStream(in).readNBytes(2);
-            return Guard.isStream(front, front.length);
+            return front.length < 2 ? in.isFull() : Guard.isStream(front, front.length);
         } catch (ZipException | EOFException damaged) {
-            return false; // nobody gets bytes out of it
+            return in.isFull(); // else nobody gets bytes out of it
         }
     }
 
-    /** An input that keeps what was read of it. */
+    /** An input that keeps what was read of it, and ends where that is as much as it may keep. */
     private static final class Kept extends FilterInputStream {
         private final ByteArrayOutputStream read = new ByteArrayOutputStream();
+        private final int most;
 
-        Kept(InputStream in) {
+        Kept(InputStream in, int most) {
             super(in);
+            this.most = most;
+        }
+
+        boolean isFull() {
+            return read.size() >= most;
         }
 
         @Override
         public int read() throws IOException {
-            int one = super.read();
-            if (one >= 0) {
-                read.write(one);
-            }
-            return one;
+            byte[] one = new byte[1];
+            return read(one, 0, 1) < 0 ? -1 : one[0] & 0xFF;
         }
 
         @Override
         public int read(byte[] bytes, int from, int length) throws IOException {
-            int count = super.read(bytes, from, length);
+            int count = isFull() ? -1 : super.read(bytes, from, Math.min(length, most - read.size()));
             read.write(bytes, from, Math.max(count, 0));
             return count;
         }
