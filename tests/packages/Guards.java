@@ -171,6 +171,8 @@ public final class Guards {
         LOG.clear();
         byte[] bad = stream("evil.A");
         try (Guard guard = guard("filter", "!*", "onRefusal", "quarantine", "quarantine", folder.toString())) {
+            told(() -> guard.inflate(() -> "no such format", () -> new InflaterInputStream(new ByteArrayInputStream(new byte[9]))));
+            System.out.println(LOG.remove(0) + "|" + folder.toFile().list().length);
             for (int i = 0; i < 1002; i++) {
                 refuse(guard, bad);
             }

@@ -262,6 +262,9 @@ public final class Guard implements GuardMXBean, AutoCloseable {
 
     /** Keeps refused bytes aside, and says where they are. */
     private String kept(byte[] bytes) {
+        if (bytes.length == 0) {
+            return ", not kept: there are no bytes";
+        }
         try {
             String file = folder.keep(bytes.length > most ? Arrays.copyOf(bytes, most) : bytes);
             return file == null ? ", not kept: the quarantine is full" : ", kept as " + file;
