@@ -5,6 +5,7 @@ import java.io.InputStream;
 import java.nio.charset.StandardCharsets;
 import java.nio.file.Files;
 import java.nio.file.Path;
+import java.util.Arrays;
 
 /** The bytes of a filter's file. What its lines mean the native library knows (docs/FILTERS.md). */
 final class FilterFile {
@@ -24,13 +25,9 @@ final class FilterFile {
         }
     }
 
-    /** Whether a file that is not faulty has no pattern and no limit, but comments and separators at the most. */
-    static boolean isEmpty(byte[] bytes) {
-        for (String line : new String(bytes, StandardCharsets.ISO_8859_1).split("\n")) {
-            if (!line.startsWith("#") && line.chars().anyMatch(it -> it != ';' && it != '\r')) {
-                return false;
-            }
-        }
-        return true;
+    /** Whether a file that is not faulty has a pattern: a piece that is no limit. */
+    static boolean hasPattern(byte[] bytes) {
+        return Arrays.stream(new String(bytes, StandardCharsets.ISO_8859_1).split("\n")).filter(line -> !line.startsWith("#"))
+            .flatMap(line -> Arrays.stream(line.split("[;\r]"))).anyMatch(piece -> !piece.isEmpty() && !piece.contains("="));
     }
 }

@@ -11,7 +11,7 @@ import java.util.function.Consumer;
 
 /**
  * The filter of a guard: that of a text, or of a file, which is looked at once a second at the most, by a thread that needs the
- * filter, and read again when it changed. A file that cannot be read, or is faulty or empty, changes nothing and is logged once.
+ * filter, and read again when it changed. A file that cannot be read, is faulty or has no pattern changes nothing and is logged once.
  */
 final class GuardFilter {
     /** How long one look at the file serves, and how old a change must be: a file that is being written is left alone. */
@@ -95,9 +95,9 @@ final class GuardFilter {
     private Filter readFile() throws IOException {
         byte[] bytes = FilterFile.read(file);
         Filter made = Filter.ofFile(bytes, flags);
-        if (FilterFile.isEmpty(bytes)) {
+        if (!FilterFile.hasPattern(bytes)) {
             made.close();
-            throw new IllegalArgumentException("the filter file is empty"); // which would admit all
+            throw new IllegalArgumentException("the filter file has no pattern"); // which would admit all classes
         }
         return made;
     }
