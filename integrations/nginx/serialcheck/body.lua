@@ -44,9 +44,15 @@ function Coming:stop()
     ngx.req.finish_body()
 end
 
+-- The next piece of nginx's file; nil at its end. That it cannot be read is an error, which nginx answers with 500.
+local function piece_of(file)
+    local piece, fault = file:read(MOST_PIECE)
+    return piece or fault and error("serialcheck: the body cannot be read: " .. fault, 0) or nil
+end
+
 function Whole:next()
     local piece = self.piece
-    self.piece = self.file and self.file:read(MOST_PIECE)
+    self.piece = self.file and piece_of(self.file)
     return piece
 end
 
@@ -63,7 +69,7 @@ local function whole()
         local file = assert(io.open(path, "rb"))
         local length = file:seek("end")
         file:seek("set")
-        return setmetatable({ length = length, file = file, piece = file:read(MOST_PIECE) }, Whole)
+        return setmetatable({ length = length, file = file, piece = piece_of(file) }, Whole)
     end
     return bytes and setmetatable({ length = #bytes, piece = bytes }, Whole)
 end
