@@ -1,7 +1,4 @@
-// What an answer says: the line of the program, and what bytes seem to be that are no stream.
-
-const REASONS = [@REASONS@];
-const CAUSES = [@CAUSES@];
+// What is told of an answer beside the words of the library: what bytes seem to be that are no stream, and why there is no answer.
 
 /** What the bytes seem to be where they are no stream. */
 function guessed(bytes) {
@@ -21,20 +18,9 @@ function guessed(bytes) {
     return /^[{[]/.test(text) ? "They look like JSON, which holds no Java objects." : "";
 }
 
-/** The line that the program prints for an answer to a check. */
-function lineOf(answer) {
-    switch (answer.status) {
-        case 0:
-            return `yes ${answer.bytes} bytes, ${answer.contents} contents, ${answer.refs} refs, depth ${answer.depth}`;
-        case 1:
-            return `no at ${answer.from} to ${answer.to}: ${REASONS[answer.reason - 1]}`;
-        case 2:
-            return `filter pattern ${answer.from}: ${CAUSES[answer.reason - 1]}`;
-        case 3:
-            return "out of memory";
-        default:
-            return `stopped: ${answer.fault}`;
-    }
+/** The line that the program prints of an answer, or why the code gave none. */
+function lineOf({ line, status, fault }) {
+    return line ?? (status === NO_MEMORY ? "out of memory" : `stopped: ${fault}`);
 }
 
 /** The text of a piece of the filter, by its number. */

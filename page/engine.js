@@ -3,7 +3,8 @@
 
 const STATUS = { YES: 0, NO: 1, NO_MEMORY: 3, SMALL: 6, STOPPED: 7 };
 const ANSWER_BYTES = 88;
-const SENTENCE_BYTES = 160;
+// More bytes than a line, a name or a sentence of the library has.
+const WORDS_BYTES = 255;
 
 let module = null;
 
@@ -36,12 +37,12 @@ class Engine {
     }
 
     /** The struct of include/serialcheck.h. */
-    answer() {
-        const view = new DataView(this.calls.memory.buffer, this.answerPlace, ANSWER_BYTES);
+    answer(place = this.answerPlace) {
+        const view = new DataView(this.calls.memory.buffer, place, ANSWER_BYTES);
         const number = (at) => Number(view.getBigUint64(at, true));
         return {
             status: view.getUint32(0, true),
-            reason: view.getUint32(4, true),
+            number: view.getUint32(4, true),
             from: number(8),
             to: number(16),
             bytes: number(24),
@@ -49,18 +50,41 @@ class Engine {
             refs: number(40),
             depth: number(48),
             handles: number(56),
+            nameFrom: number(64),
+            nameTo: number(72),
         };
     }
 
-    check({ bytes, filter, flags }) {
-        this.calls.serialcheck_check(...this.given(bytes), ...this.given(filter), flags, this.answerPlace);
-        const answer = this.answer();
-        return answer.status === STATUS.NO ? { ...answer, meaning: this.meaning(answer.reason) } : answer;
+    /** The text that a call of the library writes of these arguments, of at most `most` bytes; null where there is none. */
+    words(call, of, most = WORDS_BYTES) {
+        const [room, told] = [this.room(most), this.room(ANSWER_BYTES)];
+        this.calls[`serialcheck_${call}`](...of, room, BigInt(most), told);
+        const { status, bytes } = this.answer(told);
+        if (status === STATUS.NO_MEMORY) {
+            throw new NoMemory();
+        }
+        return status === STATUS.YES ? new TextDecoder().decode(this.view(room, bytes)) : null;
     }
 
-    /** What the reason of a refusal means, in a sentence. */
-    meaning(reason) {
-        return this.text(SENTENCE_BYTES, (room) => this.calls.serialcheck_reason_text(reason, room, BigInt(SENTENCE_BYTES), this.answerPlace)).text;
+    /** The answer at hand, with the line that the program prints of it. */
+    told() {
+        return { ...this.answer(), line: this.words("line", [this.answerPlace]).trimEnd() };
+    }
+
+    check({ bytes, filter, flags }) {
+        const given = this.given(bytes);
+        this.calls.serialcheck_check(...given, ...this.given(filter), flags, this.answerPlace);
+        const answer = this.told();
+        return answer.status === STATUS.NO ? { ...answer, ...this.refusal(answer, given) } : answer;
+    }
+
+    /** What the library says of a refusal of given bytes: its reason by name and in a sentence, and the class that was refused, or null. */
+    refusal({ number, nameFrom, nameTo }, given) {
+        return {
+            reason: this.words("reason_name", [number]),
+            meaning: this.words("reason_text", [number]),
+            className: nameFrom === nameTo ? null : this.words("class", [...given, this.answerPlace], 6 * (nameTo - nameFrom) + 2),
+        };
     }
 
     show({ bytes, limit }) {
@@ -79,7 +103,10 @@ class Engine {
         call(room);
         const answer = this.answer();
         const isCut = answer.status === STATUS.SMALL;
-        const written = this.view(room, isCut ? limit : answer.status === STATUS.YES ? answer.bytes : 0);
+        if (!isCut && answer.status !== STATUS.YES) {
+            return this.told();
+        }
+        const written = this.view(room, isCut ? limit : answer.bytes);
         const lines = isCut ? written.subarray(0, written.lastIndexOf(0x0a) + 1) : written;
         return { ...answer, text: new TextDecoder().decode(lines) };
     }

@@ -1,4 +1,4 @@
-// The bytes round the place of a refusal, and the class name that is there.
+// The bytes round the place of a refusal.
 
 const ROUND = 32; // how many bytes are shown before and behind
 const TOKEN = 96; // how many of the token's own, at its front and at its end
@@ -51,64 +51,4 @@ function dumped(bytes, from, to, width) {
         box.append(line);
     }
     return box;
-}
-
-/** The class name that a refusal is about, quoted, or null: its text is the token, or it stands where HiddenName says. */
-function nameAt(bytes, reason, from, to) {
-    if (reason === "ClassRejected" || reason === "ClassUnmatched") {
-        return quoted(loose(bytes.subarray(from + 2, to)));
-    }
-    if (reason !== "HiddenName") {
-        return null;
-    }
-    if (bytes[from] === 0x72) {
-        return quoted(classOf(loose(bytes.subarray(from + 3, to))));
-    }
-    // A row of interfaces: the name is the text that ends there.
-    for (let at = from + 5; at + 2 < to; ) {
-        const end = at + 2 + bytes[at] * 256 + bytes[at + 1];
-        if (end === to) {
-            return quoted(classOf(loose(bytes.subarray(at + 2, to))));
-        }
-        at = end;
-    }
-    return null;
-}
-
-/** The class that a name stands for which can be read at some place: without `[]` behind it, and the signs of an array around it. */
-function classOf(name) {
-    let inner = name;
-    while (inner.length > 2 && inner.endsWith("[]")) {
-        inner = inner.slice(0, -2);
-    }
-    const found = /^\[+L(.*);$/s.exec(inner);
-    return found ? classOf(found[1]) : inner;
-}
-
-/** A name in modified UTF-8, in longer spellings too. */
-function loose(bytes) {
-    let name = "";
-    for (let at = 0; at < bytes.length; ) {
-        const count = bytes[at] < 0x80 ? 1 : bytes[at] < 0xe0 ? 2 : 3;
-        let unit = count === 1 ? bytes[at] : bytes[at] & (count === 2 ? 0x1f : 0x0f);
-        for (let next = 1; next < count; next++) {
-            unit = (unit << 6) | (bytes[at + next] & 0x3f);
-        }
-        name += String.fromCharCode(unit);
-        at += count;
-    }
-    return name;
-}
-
-/** A name quoted as `list` quotes names: no sign of it turns round what follows. */
-function quoted(name) {
-    return `"${name.split("").map(quotedSign).join("")}"`;
-}
-
-function quotedSign(sign) {
-    const unit = sign.charCodeAt(0);
-    if (unit < 0x20 || unit > 0x7e) {
-        return `\\u${unit.toString(16).padStart(4, "0")}`;
-    }
-    return sign === '"' || sign === "\\" ? `\\${sign}` : sign;
 }

@@ -3,6 +3,7 @@
 const YES = 0;
 const NO = 1;
 const MISUSE = 2;
+const NO_MEMORY = 3;
 const SMALL = 6;
 const WORDS = { 0: "accepted", 1: "refused", 2: "faulty filter", 3: "no memory", 7: "stopped" };
 
@@ -118,15 +119,13 @@ class Stream {
     }
 
     /** Why it is refused: the reason in words, the class name, and the bytes round the place. */
-    refusal({ reason: number, from, to, meaning }) {
-        const reason = REASONS[number - 1];
+    refusal({ reason, meaning, className, from, to }) {
         const box = element("section", "refusal");
         const guess = reason === "BadHeader" ? ` ${guessed(this.bytes)}` : "";
         box.append(element("h3", "", reason), element("p", "", meaning + guess));
-        const name = nameAt(this.bytes, reason, from, to);
-        if (name !== null) {
+        if (className !== null) {
             const row = element("p", "", "Class ");
-            row.append(element("code", "class", name));
+            row.append(element("code", "class", className));
             box.append(row);
         }
         const all = numbered(this.bytes.length, "byte", "bytes");

@@ -19,6 +19,8 @@ export interface Answer {
     readonly ok: boolean;
     /** Of a refusal, why: a name of docs/REFUSALS.md, such as `ClassRejected`. */
     readonly reason: string | null;
+    /** Of a refusal, what its reason means, for a person: a sentence of printable ASCII. */
+    readonly meaning: string | null;
     /** Of a refusal, the offset of the faulty token, in bytes. */
     readonly from: number | null;
     /** Of a refusal, how many bytes decide: no admitted stream begins with these (of Truncated: all, which are none). */

@@ -5,12 +5,13 @@
 const fs = require("node:fs");
 const path = require("node:path");
 
-const { REASONS, CAUSES } = require("./names.json");
 const STRICT = 1;
 const ANYWHERE = 2;
 const STATUS = { YES: 0, NO: 1, MISUSE: 2, NO_MEMORY: 3, SMALL: 6 };
 const ANSWER_BYTES = 88;
 const MOST_TEXT = 1 << 24;
+// More bytes than a line, a name or a sentence of the library has.
+const MOST_WORDS = 255;
 
 const compiled = new WebAssembly.Module(fs.readFileSync(path.join(__dirname, "serialcheck.wasm")));
 
@@ -24,16 +25,17 @@ class OutOfMemory extends Error {
 
 /** What a check answers: `ok` is true for a yes, whose counts it has; otherwise `reason`, and the bytes `from` to `to` that decide. */
 class Answer {
-    constructor(fields) {
+    #line;
+
+    constructor(fields, line) {
+        this.#line = line;
         Object.assign(this, fields);
         Object.freeze(this);
     }
 
     /** The line that the program prints. */
     toString() {
-        return this.ok
-            ? `yes ${this.bytes} bytes, ${this.contents} contents, ${this.refs} refs, depth ${this.depth}`
-            : `no at ${this.from} to ${this.to}: ${this.reason}`;
+        return this.#line;
     }
 }
 
@@ -69,28 +71,55 @@ class Engine {
         };
     }
 
+    /** The text that a call of the library writes of these arguments, of at most `most` bytes; null where there is none. */
+    words(call, of, most = MOST_WORDS) {
+        const [room, told] = [this.room(most), this.room(ANSWER_BYTES)];
+        this.calls[`serialcheck_${call}`](...of, room, BigInt(most), told);
+        const { status, bytes } = this.answer(told);
+        if (status === STATUS.NO_MEMORY) {
+            throw new OutOfMemory();
+        }
+        return status === STATUS.YES ? new TextDecoder().decode(new Uint8Array(this.calls.memory.buffer, room, bytes)) : null;
+    }
+
     /** The class that the answer at hand to a check of given bytes says was refused, as the program prints it without its quotes; or null. */
     className(given) {
         const { nameFrom, nameTo } = this.answer();
-        if (nameFrom === nameTo) {
-            return null;
-        }
-        const most = 6 * (nameTo - nameFrom) + 2;
-        const [room, told] = [this.room(most), this.room(ANSWER_BYTES)];
-        this.calls.serialcheck_class(...given, this.place, room, BigInt(most), told);
-        const { status, bytes } = this.answer(told);
-        return status === STATUS.YES ? new TextDecoder().decode(new Uint8Array(this.calls.memory.buffer, room + 1, bytes - 2)) : null;
+        const quoted = nameFrom === nameTo ? null : this.words("class", [...given, this.place], 6 * (nameTo - nameFrom) + 2);
+        return quoted && quoted.slice(1, -1);
     }
 
-    /** The answer of a call that writes a text into a room, and as many whole lines of the text as the room has. */
+    /** The answer at hand: with the class that was refused, where it is to a check of given bytes. What is neither a yes nor a no is thrown. */
+    settled(given = null) {
+        const { status, number, from, to, bytes, contents, refs, depth, handles, whole } = this.answer();
+        const line = this.words("line", [this.place])?.trimEnd();
+        switch (status) {
+            case STATUS.YES:
+                return new Answer({ ok: true, reason: null, meaning: null, from: null, to: null, className: null, bytes, contents, refs, depth, handles, whole }, line);
+            case STATUS.NO: {
+                const [reason, meaning] = ["reason_name", "reason_text"].map((it) => this.words(it, [number]));
+                const className = given && this.className(given);
+                return new Answer({ ok: false, reason, meaning, from, to, className, bytes: null, contents: null, refs: null, depth: null, handles: null, whole }, line);
+            }
+            case STATUS.MISUSE:
+                throw Object.assign(new TypeError(`serialcheck: ${line}`), { piece: from });
+            default:
+                throw new OutOfMemory();
+        }
+    }
+
+    /** As many whole lines of the text of a call as `most` bytes have, or the refusal of bytes that are no stream. */
     text(most, call) {
         const room = this.room(most);
         call(room);
-        const answer = this.answer();
-        const isCut = answer.status === STATUS.SMALL;
-        const written = new Uint8Array(this.calls.memory.buffer, room, isCut ? most : answer.status === STATUS.YES ? answer.bytes : 0);
+        const { status, bytes } = this.answer();
+        const isCut = status === STATUS.SMALL;
+        if (!isCut && status !== STATUS.YES) {
+            return { answer: this.settled(), isCut, text: "" };
+        }
+        const written = new Uint8Array(this.calls.memory.buffer, room, isCut ? most : bytes);
         const lines = isCut ? written.subarray(0, written.lastIndexOf(0x0a) + 1) : written;
-        return { answer, isCut, text: new TextDecoder().decode(lines) };
+        return { answer: null, isCut, text: new TextDecoder().decode(lines) };
     }
 }
 
@@ -121,34 +150,15 @@ function textOf(text, fault) {
     return new TextEncoder().encode(text);
 }
 
-/** The error of a filter or a table of modules that is faulty, with its cause and the number of its piece or line. */
-function misuse(answer) {
-    return Object.assign(new TypeError(`serialcheck: ${CAUSES[answer.number].replace("%d", answer.from)}`), { piece: answer.from });
-}
-
-function settled(answer, className = null) {
-    const { status, number, from, to, bytes, contents, refs, depth, handles, whole } = answer;
-    switch (status) {
-        case STATUS.YES:
-            return new Answer({ ok: true, reason: null, from: null, to: null, className: null, bytes, contents, refs, depth, handles, whole });
-        case STATUS.NO:
-            return new Answer({ ok: false, reason: REASONS[number], from, to, className, bytes: null, contents: null, refs: null, depth: null, handles: null, whole });
-        case STATUS.MISUSE:
-            throw misuse(answer);
-        default:
-            throw new OutOfMemory();
-    }
-}
-
 function check(data, filter = "", { strict = false, anywhere = false } = {}) {
     const bytes = bytesOf(data);
     const text = textOf(filter, "the filter is not text");
     const flags = (strict ? STRICT : 0) | (anywhere ? ANYWHERE : 0);
-    return settled(...asked((engine) => {
+    return asked((engine) => {
         const given = engine.given(bytes);
         engine.calls.serialcheck_check(...given, ...engine.given(text), flags, engine.place);
-        return [engine.answer(), engine.className(given)];
-    }));
+        return engine.settled(given);
+    });
 }
 
 class Filter {
@@ -166,26 +176,21 @@ class Filter {
     }
 }
 
-/** The text of a call, or the refusal of a stream that is none. */
-function textAnswer({ answer, isCut, text }) {
-    return isCut || answer.status === STATUS.YES ? { answer: null, isCut, text } : { answer: settled(answer), isCut: false, text: "" };
-}
-
 function show(data, { most = MOST_TEXT } = {}) {
     const bytes = bytesOf(data);
-    return textAnswer(asked((engine) => {
+    return asked((engine) => {
         const given = engine.given(bytes);
         return engine.text(most, (room) => engine.calls.serialcheck_show(...given, BigInt(most), room, BigInt(most), engine.place));
-    }));
+    });
 }
 
 function list(data, filter = "", { modules = "", most = MOST_TEXT } = {}) {
     const bytes = bytesOf(data);
     const texts = [textOf(filter, "the filter is not text"), textOf(modules, "the table of modules is not text")];
-    return textAnswer(asked((engine) => {
+    return asked((engine) => {
         const given = [bytes, ...texts].flatMap((it) => engine.given(it));
         return engine.text(most, (room) => engine.calls.serialcheck_list(...given, BigInt(most), room, BigInt(most), engine.place));
-    }));
+    });
 }
 
 module.exports = { check, Filter, show, list, Answer, OutOfMemory };
