@@ -1,5 +1,6 @@
 -- The longest stream that a text spells.
-use Rattle.std.proofs.Common.{◌≡◌, ℕ, ◌+◌, ◌-◌, ◌<◌, ◌≤◌, List, ◌++◌, length, take, drop, Option, Some, None, sym, ap, subst, ◌∙◌, arith, length-take, length-take-le, take_all, take-take, take-add, take-append-drop}
+use Rattle.std.proofs.Common.{◌≡◌, ℕ, ◌+◌, ◌-◌, ◌<◌, ◌≤◌, max, List, ◌++◌, length, take, drop, Option, Some, None, sym, ap, subst, ◌∙◌, arith, length-take, length-take-le, take_all, take-take, take-add, take-append-drop}
+use Rattle.memchr.specs.Find.{Nowhere}
 use Rattle.jser_grammar.specs.Parts.{IsBytes}
 use Rattle.jser_reader.specs.Gates.{open_gate}
 use Rattle.jser_reader.specs.WholeContents.{IsWhole, StaysWhole}
@@ -7,8 +8,8 @@ use Rattle.jser_find.specs.declared.spelled.Reading.{Reading}
 use Rattle.jser_find.specs.declared.start.Start.{Start}
 use Rattle.jser_find.specs.declared.texts.TextFind.{TextFind}
 use Rattle.jser_find.specs.Spelled.{IsIn, bytes_from, place_until}
-use Rattle.jser_find.specs.Starts.{IsFirstStart}
-use Rattle.jser_find.specs.Texts.{FindsText, IsLongest, TextSearch, form_of}
+use Rattle.jser_find.specs.Starts.{HasHeaderTextAt, IsFirstStart}
+use Rattle.jser_find.specs.Texts.{FindsText, IsLongest, TextSearch, form_of, place_after}
 use Rattle.jser_find.proofs.BytesLemmas.{spells_bytes}
 use Rattle.jser_verdict.proofs.ByteLists.{bytes_left, bytes_right}
 
@@ -74,11 +75,13 @@ longest_enough most bytes stream is =
     omega arith
 
 pub no_text_found : (search inside : TextSearch) (start : Option Start) → inside ≡ search → start ≡ None → IsFirstStart inside.text inside.place start
-    → FindsText search.most search.text search.place None
+    → Nowhere (HasHeaderTextAt search.text) search.place (length search.text)
 no_text_found search inside start same none first =
-    subst (λ (s : TextSearch). FindsText s.most s.text s.place None) same (subst (IsFirstStart inside.text inside.place) none first)
+    subst (λ (s : TextSearch). Nowhere (HasHeaderTextAt s.text) s.place (length s.text)) same (subst (IsFirstStart inside.text inside.place) none first)
 
-pub text_found : (most : ℕ) (text : List ℕ) (place : ℕ) (start : Start) (find : TextFind) → IsFirstStart text place (Some start)
+pub text_found : (most : ℕ) (text : List ℕ) (place next : ℕ) (start : Start) (find : TextFind) → IsFirstStart text place (Some start)
     → IsLongest most (bytes_from text start.reading) find.stream.items → find.from ≡ start.from → find.form ≡ form_of start.reading.spot.next
-    → find.to ≡ place_until text start.reading (length find.stream.items) → FindsText most text place (Some find)
-text_found most text place start find first longest from form to = record { start = start; first = first; from = from; form = form; longest = longest; to = to }
+    → find.to ≡ place_until text start.reading (length find.stream.items)
+    → next ≡ max (place_after text start.reading (length find.stream.items)) (start.from + 1) → FindsText most text place next (Some find)
+text_found most text place next start find first longest from form to goes_on =
+    record { start = start; first = first; from = from; form = form; longest = longest; to = to; goes_on = goes_on }

@@ -1,6 +1,6 @@
 //! The streams that a text spells, one after another.
 ghost use Rattle.std.specs.Prelude.{◌≡◌, ◌≤◌, IfOk, length};
-ghost use Rattle.jser_find.specs.Texts.{FindsText, form_of, place_next};
+ghost use Rattle.jser_find.specs.Texts.{FindsText, ends_group, form_of};
 
 use crate::bytes::place_behind;
 use crate::form::Form;
@@ -53,15 +53,16 @@ impl<'t> TextFinds<'t> {
     }
 
     /// The next header outside of the streams before it, with the longest stream that the text spells there and that has at most
-    /// `most` bytes, whatever classes it names. `None` where there is no more.
+    /// `most` bytes, whatever classes it names. `None` where there is no more. A header may begin in the last digit of the stream
+    /// before it, where that has bits of the next byte too.
     ///
     /// # Errors
     ///
     /// `AllocError` where memory ran out.
     #[tactic(auto, using(crate::proofs::TextLemmas::text_found, crate::proofs::TextLemmas::no_text_found, crate::proofs::TextLemmas::longest_enough))]
     pub fn next(&mut self, alloc: Global) -> Result<Option<TextFind>, AllocError>
-        ensures finds { IfOk result (FindsText self.old.most self.old.text self.old.place) }
-        ensures place { IfOk result (λ next. self.new ≡ record self.old { place = place_next self.old.place next }) }
+        ensures finds { IfOk result (FindsText self.old.most self.old.text self.old.place self.new.place) }
+        ensures text { IfOk result (λ next. self.new ≡ record self.old { place = self.new.place }) }
     {
         let start = match first_start(self.text, self.place) {
             Some(start) => start,
@@ -72,7 +73,12 @@ impl<'t> TextFinds<'t> {
             Err(error) => return Err(error),
         };
         let to = place_behind(self.text, start.reading, stream.len());
-        self.place = to.max(start.from + 1);
+        let behind = if ends_group(start.reading.spot.next, stream.len()) {
+            to
+        } else {
+            to.saturating_sub(1)
+        };
+        self.place = behind.max(start.from + 1);
         Ok(Some(TextFind {
             form: form_of(start.reading.spot.next),
             from: start.from,
@@ -89,5 +95,18 @@ fn form_of(next: Digit) -> Form
     match next {
         Digit::High | Digit::Low(_) => Form::Hexadecimal,
         Digit::First | Digit::Second(_) | Digit::Third(_) | Digit::Fourth(_) => Form::Base64,
+    }
+}
+
+/// Whether so many bytes of a text end with a whole digit, where their first begins before this one. Three bytes are four digits
+/// of base64, so behind any other number of bytes the last digit has bits of the next byte too.
+fn ends_group(next: Digit, count: usize) -> bool
+    ensures { result ≡ ends_group next count }
+{
+    match next {
+        Digit::High | Digit::Low(_) => true,
+        Digit::First | Digit::Second(_) => count % 3 == 0,
+        Digit::Third(_) => count % 3 == 2,
+        Digit::Fourth(_) => count % 3 == 1,
     }
 }
