@@ -9,7 +9,6 @@ ghost use Rattle.jser_reader.specs.Visits.{whole_size};
 use crate::gate::Gate;
 use crate::item::{Field, Item, Step, Whole};
 use crate::machine::wholes::size_of_field;
-use crate::phase::Phase;
 use crate::reader::Reader;
 use crate::reader::lent::Lent;
 use crate::refusal::Stop;
@@ -76,17 +75,13 @@ impl<G: Gate> Reader<G> {
         ensures progress { IfOk result (λ showing. ShowingSome piece.now showing) }
         ensures gate { self.new.gate ≡ self.old.gate }
     {
-        match self.machine.phase() {
-            Phase::TypeCode => match self.next_field(piece) {
-                Some(field) => Ok(Showing::Field(field)),
-                None => self.show_item(piece),
-            },
-            Phase::Top | Phase::Note | Phase::Value => match self.lend_whole(piece) {
+        match self.next_field(piece) {
+            Some(field) => Ok(Showing::Field(field)),
+            None => match self.lend_whole(piece) {
                 Lent::Value(whole) => Ok(Showing::Whole(whole)),
                 Lent::Stopped => Err(self.machine.answer()),
                 Lent::Nothing => self.show_item(piece),
             },
-            _ => self.show_item(piece),
         }
     }
 
