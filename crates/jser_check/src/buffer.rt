@@ -21,8 +21,8 @@ pub fn first_buffer(alloc: Global) -> Result<Vec<u8>, AllocError>
     vec![in alloc; 0u8; FIRST_LEN]
 }
 
-/// Room for the read after one that gave so many bytes: 57,344 bytes where these filled the room of the first, and there is
-/// memory for more; else the room that there is.
+/// The buffer for the read after one of `count` bytes: one of 57,344 bytes if these filled the first buffer and memory allows,
+/// else the same buffer.
 pub fn next_buffer(alloc: Global, buffer: Vec<u8>, count: usize) -> Vec<u8>
     requires { IsRoom (vec_len buffer) }
     ensures { IsRoom (vec_len result) }

@@ -13,8 +13,8 @@ use jser_table::{Element, element_of};
 use std::alloc::{AllocError, Global};
 use std::marker::Model;
 
-/// The classes that those names name, in the order of the places where they can first be read, each with how many places of a
-/// text of it there are.
+/// The classes of the names that can be read at any place of these bytes and are not checked, in the order in which they can first
+/// be read, each with the number of places where it can be.
 pub(crate) fn hidden_names(
     alloc: Global,
     bytes: &[u8],

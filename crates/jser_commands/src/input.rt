@@ -66,7 +66,7 @@ fn stream_of(alloc: Global, bytes: &[u8]) -> Result<Index<'_>, Unread>
     }
 }
 
-/// Why there are no names, or no bytes, is why there is no stream.
+/// Why there is no stream, from why its names or bytes were not found.
 pub(crate) fn unread_of(fault: NamesFault) -> Unread
     ensures { IsUnread fault result }
 {

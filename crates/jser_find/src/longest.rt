@@ -13,8 +13,7 @@ const FIRST: usize = 64;
 
 /// The longest stream among the first `most` bytes that a text spells; no bytes where they begin with none.
 ///
-/// Only so many bytes are read as decide, or eight times as many: at first 64, and where these do not decide all of them again
-/// with more.
+/// It reads 64 bytes. Where they do not decide, it reads from the start again, eight times as many, until they do.
 pub(crate) fn longest(
     alloc: Global,
     text: &[u8],

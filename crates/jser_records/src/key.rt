@@ -39,7 +39,7 @@ impl Key {
         self.is_lost = false;
     }
 
-    /// Adds a front of the KEY, or what is behind it. `false` where it is too long: then it is lost.
+    /// Appends bytes to the KEY. `false`, and the KEY is lost, where it would be too long or memory runs out.
     pub(crate) fn add(&mut self, bytes: &[u8]) -> bool
         ensures lost { result ≡ false → HasNoRoom self.old self.new bytes.now }
         ensures added { result ≡ true → HasAdded self.old self.new bytes.now }
