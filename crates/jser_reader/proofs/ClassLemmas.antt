@@ -1,12 +1,11 @@
 -- Class places: their tags, and the handles of classes that have been read.
-use Rattle.std.proofs.Common.{◌≡◌, ℕ, suc, ◌-◌, ◌<◌, ◌⊎◌, inl, inr, Bool, true, false, length, Option, Some, None, refl, sym, ap, subst, arith, option_map}
+use Rattle.std.proofs.Common.{◌≡◌, ℕ, suc, ◌-◌, false, length, Option, Some, None, refl, sym, ap, subst, arith, option_map}
 use Rattle.std.proofs.lemmas.Bool.Decides.{nat_tests}
 use Rattle.jser_table.specs.declared.layer.Fit.{Fit}
 use Rattle.jser_table.specs.declared.layer.Fit.TheVariants as fit
 use Rattle.jser_table.specs.Chains.{chain_in}
 use Rattle.jser_table.specs.Entries.{chain_at, chain_of}
 use Rattle.jser_reading.specs.Labels.{class_place_at, class_handle_at}
-use Rattle.jser_reading.specs.TokenBytes.{tag_byte}
 use Rattle.jser_reading.specs.TokensFromBytes.{tag_from}
 use Rattle.jser_reading.specs.Goals.{State}
 use Rattle.jser_reading.specs.Roles.{object_owner, array_owner, enum_owner, class_owner}
@@ -22,9 +21,6 @@ use Rattle.jser_reader.specs.declared.frame.Owner.TheVariants as owner
 use Rattle.jser_reader.specs.declared.frame.Role.TheVariants as role
 use Rattle.jser_reader.specs.declared.phase.Phase.TheVariants as phase
 use Rattle.jser_reader.specs.declared.refusal.Reason.{Reason as CodeReason}
-use Rattle.jser_reader.specs.declared.tag.ValueTag.{ValueTag}
-use Rattle.jser_reader.specs.declared.tag.ValueTag.TheVariants as value
-use Rattle.jser_reader.specs.Tags.{view_tag, block_byte, IsTagOf}
 use Rattle.jser_reader.specs.Reasons.{named}
 use Rattle.jser_reader.specs.Frames.{goal_owner}
 use Rattle.jser_reader.specs.Readers.{Seen, Ready}
@@ -43,58 +39,18 @@ refused : (reason : Reason) (o : GoalOwner) (b : ℕ) (s : State) (found : Flow)
     → StopsWith (refusal old.meter (named reason)) old new → found ≡ flow.Stopped → Tells (tag_reason old o b) s found old new
 refused reason o b s found old new e h ef = tells_refusal reason (tag_reason old o b) s found old new h ef e
 
-not_known : (b : ℕ) (o : GoalOwner) → (b < 0x70) ⊎ (0x7E < b) → is_known_tag (class_place_at o) b ≡ false
-not_known b o (inl h) = grind (arith, nat_tests)
-not_known b o (inr h) = grind (arith, nat_tests)
+not_known : (b : ℕ) (o : GoalOwner) → (b ≡ 0x71 → ⊥) → (b ≡ 0x72 → ⊥) → (b ≡ 0x7D → ⊥) → (b ≡ 0x70 → ⊥) → is_known_tag (class_place_at o) b ≡ false
+not_known b o reference class proxy null = grind (arith, nat_tests)
 
-pub no_class_tag : (b : ℕ) (s : State) (found : Flow) (old new : Seen) → IsTagOf b None → StopsWith (refusal old.meter (named bad_tag)) old new → found ≡ flow.Stopped
-    → Tells (tag_reason old (goal_owner old.owner) b) s found old new
-no_class_tag b s found old new t h ef =
-    let k = not_known b (goal_owner old.owner) t in
+pub no_class_tag : (b : ℕ) (s : State) (found : Flow) (old new : Seen) → (b ≡ 0x71 → ⊥) → (b ≡ 0x72 → ⊥) → (b ≡ 0x7D → ⊥) → (b ≡ 0x70 → ⊥)
+    → StopsWith (refusal old.meter (named bad_tag)) old new → found ≡ flow.Stopped → Tells (tag_reason old (goal_owner old.owner) b) s found old new
+no_class_tag b s found old new reference class proxy null h ef =
+    let k = not_known b (goal_owner old.owner) reference class proxy null in
     refused bad_tag (goal_owner old.owner) b s found old new (rw k refl) h ef
 
-pub class_block : (long : Bool) (b : ℕ) (s : State) (found : Flow) (old new : Seen) → b ≡ block_byte long → StopsWith (refusal old.meter (named bad_tag)) old new → found ≡ flow.Stopped
+pub null_class_tag : (b : ℕ) (s : State) (found : Flow) (old new : Seen) → StopsWith (refusal old.meter (named null_class)) old new → found ≡ flow.Stopped → b ≡ 0x70
     → Tells (tag_reason old (goal_owner old.owner) b) s found old new
-class_block false b s found old new e h ef = rw e (refused bad_tag (goal_owner old.owner) 0x77 s found old new refl h ef)
-class_block true b s found old new e h ef = rw e (refused bad_tag (goal_owner old.owner) 0x7A s found old new refl h ef)
-
-pub class_other : (b : ℕ) (s : State) (found : Flow) (old new : Seen) → (b ≡ 0x78) ⊎ ((b ≡ 0x79) ⊎ (b ≡ 0x7B)) → StopsWith (refusal old.meter (named bad_tag)) old new → found ≡ flow.Stopped
-    → Tells (tag_reason old (goal_owner old.owner) b) s found old new
-class_other b s found old new (inl e) h ef = rw e (refused bad_tag (goal_owner old.owner) 0x78 s found old new refl h ef)
-class_other b s found old new (inr (inl e)) h ef = rw e (refused bad_tag (goal_owner old.owner) 0x79 s found old new refl h ef)
-class_other b s found old new (inr (inr e)) h ef = rw e (refused bad_tag (goal_owner old.owner) 0x7B s found old new refl h ef)
-
-pub null_class_tag : (s : State) (found : Flow) (old new : Seen) → StopsWith (refusal old.meter (named null_class)) old new → found ≡ flow.Stopped
-    → Tells (tag_reason old (goal_owner old.owner) (tag_byte (view_tag value.Null))) s found old new
-null_class_tag s found old new h ef = refused null_class (goal_owner old.owner) 0x70 s found old new refl h ef
-
-abbrev IsNoClass : ValueTag → Type 0
-IsNoClass value.Null = ⊥
-IsNoClass value.Reference = ⊥
-IsNoClass value.ClassDesc = ⊥
-IsNoClass value.ProxyClassDesc = ⊥
-IsNoClass _ = Unit {0}
-
-no_class_reason : (t : ValueTag) (o : GoalOwner) (r : Seen) → IsNoClass t → tag_reason r o (tag_byte (view_tag t)) ≡ Some bad_tag
-no_class_reason value.Object o r i = refl
-no_class_reason value.String o r i = refl
-no_class_reason value.LongString o r i = refl
-no_class_reason value.Array o r i = refl
-no_class_reason value.Class o r i = refl
-no_class_reason value.Enum o r i = refl
-no_class_reason value.Null o r i = absurd i
-no_class_reason value.Reference o r i = absurd i
-no_class_reason value.ClassDesc o r i = absurd i
-no_class_reason value.ProxyClassDesc o r i = absurd i
-
-pub no_class_value : (t : ValueTag) (s : State) (found : Flow) (old new : Seen) → StopsWith (refusal old.meter (named bad_tag)) old new → found ≡ flow.Stopped → IsNoClass t
-    → Tells (tag_reason old (goal_owner old.owner) (tag_byte (view_tag t))) s found old new
-no_class_value t s found old new h ef i = refused bad_tag (goal_owner old.owner) (tag_byte (view_tag t)) s found old new (no_class_reason t (goal_owner old.owner) old i) h ef
-
-pub value_tag : (t : ValueTag) (b : ℕ) (found : Flow) (old new : Seen) → b ≡ tag_byte (view_tag t)
-    → Tells (tag_reason old (goal_owner old.owner) (tag_byte (view_tag t))) (after_class_tag old (tag_from (tag_byte (view_tag t)))) found old new
-    → Tells (tag_reason old (goal_owner old.owner) b) (after_class_tag old (tag_from b)) found old new
-value_tag t b found old new e h = rw e h
+null_class_tag b s found old new h ef e = rw e (refused null_class (goal_owner old.owner) 0x70 s found old new refl h ef)
 
 -- tags that are taken
 
@@ -112,22 +68,18 @@ quiet_class array_owner r = refl
 quiet_class enum_owner r = refl
 quiet_class class_owner r = refl
 
-pub class_reference : (found : Flow) (old new : Seen) → IsNext phase.ClassHandle old.owner old.elements old.header old.text old new → found ≡ flow.On
-    → Tells (tag_reason old (goal_owner old.owner) (tag_byte (view_tag value.Reference))) (after_class_tag old (tag_from (tag_byte (view_tag value.Reference)))) found old new
+pub class_reference : (b : ℕ) (found : Flow) (old new : Seen) → IsNext phase.ClassHandle old.owner old.elements old.header old.text old new → found ≡ flow.On → b ≡ 0x71
+    → Tells (tag_reason old (goal_owner old.owner) b) (after_class_tag old (tag_from b)) found old new
 unfolding tag_from Ready
-class_reference found old new n ef =
+class_reference b found old new n ef e =
     let ready : Ready new (after_class_tag old (tag_from 0x71)) = rw (next_is phase.ClassHandle old.owner old.elements old.header old.text old new n) refl in
-    tells_next (tag_reason old (goal_owner old.owner) 0x71) (after_class_tag old (tag_from 0x71)) found old new (record { ready = ready; meter = n.meter; max = ap (λ t. t.max) n.table }) ef (quiet_reference (goal_owner old.owner) old)
+    rw e (tells_next (tag_reason old (goal_owner old.owner) 0x71) (after_class_tag old (tag_from 0x71)) found old new (record { ready = ready; meter = n.meter; max = ap (λ t. t.max) n.table }) ef (quiet_reference (goal_owner old.owner) old))
 
-pub new_class : (found : Flow) (old new : Seen) → Tells None (opens_class old (role.ClassOf old.owner)) found old new
-    → Tells (tag_reason old (goal_owner old.owner) (tag_byte (view_tag value.ClassDesc))) (after_class_tag old (tag_from (tag_byte (view_tag value.ClassDesc)))) found old new
+pub new_class : (b : ℕ) (found : Flow) (old new : Seen) → Tells None (opens_class old (role.ClassOf old.owner)) found old new → b ≡ 0x72
+    → Tells (tag_reason old (goal_owner old.owner) b) (after_class_tag old (tag_from b)) found old new
 unfolding tag_from
-new_class found old new h =
-    subst (λ k. Tells k (after_class_tag old (tag_from 0x72)) found old new) (sym (quiet_class (goal_owner old.owner) old)) h
-
-pub proxy_tag : (found : Flow) (old new : Seen) → Tells (tag_reason old (goal_owner old.owner) 0x7D) (after_class_tag old (tag_from 0x7D)) found old new
-    → Tells (tag_reason old (goal_owner old.owner) (tag_byte (view_tag value.ProxyClassDesc))) (after_class_tag old (tag_from (tag_byte (view_tag value.ProxyClassDesc)))) found old new
-proxy_tag found old new h = h
+new_class b found old new h e =
+    rw e (subst (λ k. Tells k (after_class_tag old (tag_from 0x72)) found old new) (sym (quiet_class (goal_owner old.owner) old)) h)
 
 at_owner : (o : Owner) (found : Flow) (old new : Seen) → old.owner ≡ o → Tells (tag_reason old (goal_owner o) 0x7D) (opens_proxy old (role.ClassOf o)) found old new
     → Tells (tag_reason old (goal_owner old.owner) 0x7D) (after_class_tag old (tag_from 0x7D)) found old new

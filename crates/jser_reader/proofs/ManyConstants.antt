@@ -123,8 +123,8 @@ constant_leads piece n name chain old k b full =
           (quiet_end gate 1 (taken.Ended 1) last m q told
           (one_taken 0x71 flow.On (taken.Ended 1) last m q
           (takes_text_tag 0x71 flow.On m (farther m 1) q
-          (text_reference flow.On (farther m 1) q
-          (record { phase_is = refl; frames = refl; layers = refl; table = refl; refs = refl; owner_is = refl; chain_is = refl; header_is = refl; text_is = refl; left = refl; meter = refl }) refl)
+          (text_reference 0x71 flow.On (farther m 1) q
+          (record { phase_is = refl; frames = refl; layers = refl; table = refl; refs = refl; owner_is = refl; chain_is = refl; header_is = refl; text_is = refl; left = refl; meter = refl }) refl refl)
           refl refl)
           refl (name_tag piece k.used name b.name_is) (omega arith) tt gate)
           refl tt can_m)

@@ -12,7 +12,6 @@ use Rattle.jser_reader.specs.declared.machine.take.taken.Taken.TheVariants as ta
 use Rattle.jser_reader.specs.declared.phase.Phase.TheVariants as phase
 use Rattle.jser_reader.specs.declared.phase.TextFor.{TextFor}
 use Rattle.jser_reader.specs.declared.phase.TextFor.TheVariants as text
-use Rattle.jser_reader.specs.declared.tag.ValueTag.TheVariants as value
 use Rattle.jser_reader.specs.declared.tally.Tally.{Tally}
 use Rattle.jser_reader.specs.Fitting.{HasDescriptor}
 use Rattle.jser_reader.specs.Readers.{Seen, Header, Ready, moment_of, fields_goals, text_rest, is_checked}
@@ -25,7 +24,7 @@ use Rattle.jser_reader.specs.Wholes.{HasText, AssignsText}
 use Rattle.jser_reader.specs.Members.{HasType, with_header, BeginsMember}
 use Rattle.jser_reader.proofs.FieldLemmas.{begins_field, right_code}
 use Rattle.jser_reader.proofs.TakeLemmas.{counts_bytes, takes_type_code, takes_text_tag, one_taken}
-use Rattle.jser_reader.proofs.TextLemmas.{text_value_tag, text_reference, short_text, right_text, type_named, type_ends, field_named, object_field_named}
+use Rattle.jser_reader.proofs.TextLemmas.{text_reference, short_text, right_text, type_named, type_ends, field_named, object_field_named}
 use Rattle.jser_reader.proofs.TextSteps.{short_text_taken}
 use Rattle.jser_reader.proofs.TextTakeLemmas.{takes_text_handle}
 use Rattle.jser_reader.proofs.CutLemmas.{four_taken}
@@ -246,10 +245,9 @@ at_type r = record {
 pub type_tag_taken : (r : Seen) → r.phase ≡ phase.TextTag → TakesByte 0x71 flow.On r (at_type r)
 type_tag_taken r ep =
     takes_text_tag 0x71 flow.On r (farther r 1) (at_type r)
-    (text_value_tag value.Reference 0x71 flow.On (farther r 1) (at_type r) refl
-    (text_reference flow.On (farther r 1) (at_type r)
+    (text_reference 0x71 flow.On (farther r 1) (at_type r)
     (record { phase_is = refl; frames = refl; layers = refl; table = refl; refs = refl; owner_is = refl; chain_is = refl; header_is = refl; text_is = refl; left = refl; meter = refl })
-    refl))
+    refl refl)
     refl ep
 
 pub type_handle_taken : (gate : Gate) (n : ℕ) (piece : List ℕ) (r new : Seen) → r.text ≡ text.FieldType → HasType piece n r
@@ -344,11 +342,10 @@ begun_type r = record {
 new_type_tag_taken : (r : Seen) → r.phase ≡ phase.TextTag → is_full r ≡ false → TakesByte 0x74 flow.On r (begun_type r)
 new_type_tag_taken r ep full =
     takes_text_tag 0x74 flow.On r (farther r 1) (begun_type r)
-    (text_value_tag value.String 0x74 flow.On (farther r 1) (begun_type r) refl
-    (short_text flow.On (farther r 1) (begun_type r)
+    (short_text 0x74 flow.On (farther r 1) (begun_type r)
     (λ form inside. new_text (length r.table.entries) false r.text flow.On (farther r 1) (added (farther r 1) text_entry) (begun_type r) (assigned_text (farther r 1) full)
     (record { phase_is = refl; frames = refl; layers = refl; table = refl; refs = refl; owner_is = refl; chain_is = refl; header_is = refl; text_is = refl; left = refl; meter = refl })
-    refl form inside)))
+    refl form inside) refl)
     refl ep
 
 -- the text of a type is not checked

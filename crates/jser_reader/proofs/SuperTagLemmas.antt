@@ -1,12 +1,11 @@
 -- The tag of a superclass place.
-use Rattle.std.proofs.Common.{◌≡◌, ℕ, suc, ◌-◌, ◌<◌, ◌⊎◌, inl, inr, Bool, true, false, not, ◌&&◌, List, [], ◌∷◌, length, slice_get, Option, Some, None, option_map, is_some, IsTrue, refl, sym, ◌∙◌, ap, subst, arith}
+use Rattle.std.proofs.Common.{◌≡◌, ℕ, suc, ◌-◌, Bool, true, false, not, ◌&&◌, List, [], ◌∷◌, length, slice_get, Option, Some, None, option_map, is_some, IsTrue, refl, sym, ◌∙◌, ap, subst, arith}
 use Rattle.std.proofs.lemmas.Bool.Decides.{nat_tests}
 use Rattle.std.specs.Option.{ForSome}
 use Rattle.jser_table.specs.Chains.{all_serial, chain_in}
 use Rattle.jser_table.specs.Entries.{TableEntry, closed_entry, is_closed, chain_at, chain_of}
 use Rattle.jser_table.specs.Tables.{TableView}
 use Rattle.jser_reading.specs.Labels.{superclass_place_at}
-use Rattle.jser_reading.specs.TokenBytes.{tag_byte}
 use Rattle.jser_reading.specs.TokensFromBytes.{tag_from}
 use Rattle.jser_reading.specs.Roles.{ChainOwner}
 use Rattle.jser_reading.specs.Goals.{State}
@@ -19,9 +18,6 @@ use Rattle.jser_reader.specs.declared.machine.flow.Flow.{Flow}
 use Rattle.jser_reader.specs.declared.machine.flow.Flow.TheVariants as flow
 use Rattle.jser_reader.specs.declared.phase.Phase.TheVariants as phase
 use Rattle.jser_reader.specs.declared.refusal.Reason.{Reason as CodeReason}
-use Rattle.jser_reader.specs.declared.tag.ValueTag.{ValueTag}
-use Rattle.jser_reader.specs.declared.tag.ValueTag.TheVariants as value
-use Rattle.jser_reader.specs.Tags.{view_tag, block_byte, IsTagOf}
 use Rattle.jser_reader.specs.Reasons.{named}
 use Rattle.jser_reader.specs.Readers.{Seen, Ready}
 use Rattle.jser_reader.specs.Handlers.{StopsWith, refusal, Tells, IsNext, counted, is_full, plain_gate, label_at, opens_class, opens_proxy, CountsPlace}
@@ -162,46 +158,14 @@ proxy_goes b found strict old mid new h eb k es =
 
 -- tags that are refused
 
-not_known : (b : ℕ) (o : ChainOwner) (s : Bool) → (b < 0x70) ⊎ (0x7E < b) → is_known_tag (superclass_place_at o s) b ≡ false
-not_known b o s (inl h) = grind (arith, nat_tests)
-not_known b o s (inr h) = grind (arith, nat_tests)
+not_known : (b : ℕ) (o : ChainOwner) (s : Bool) → (b ≡ 0x70 → ⊥) → (b ≡ 0x71 → ⊥) → (b ≡ 0x72 → ⊥) → (b ≡ 0x7D → ⊥) → is_known_tag (superclass_place_at o s) b ≡ false
+not_known b o s null reference class proxy = grind (arith, nat_tests)
 
-pub no_super_tag : (b : ℕ) (s : State) (found : Flow) (old new : Seen) → IsTagOf b None → StopsWith (refusal old.meter (named bad_tag)) old new → found ≡ flow.Stopped → Tells (super_reason old b) s found old new
-no_super_tag b s found old new t h ef =
-    let k = not_known b (chain_owner old.frames) (strict_in old.layers old.frames) t in tells_refusal bad_tag (super_reason old b) s found old new h ef (rw k refl)
-
-pub super_block : (long : Bool) (b : ℕ) (s : State) (found : Flow) (old new : Seen) → b ≡ block_byte long → StopsWith (refusal old.meter (named bad_tag)) old new → found ≡ flow.Stopped → Tells (super_reason old b) s found old new
-super_block false b s found old new e h ef = rw e (tells_refusal bad_tag (Some bad_tag) s found old new h ef refl)
-super_block true b s found old new e h ef = rw e (tells_refusal bad_tag (Some bad_tag) s found old new h ef refl)
-
-pub super_other : (b : ℕ) (s : State) (found : Flow) (old new : Seen) → (b ≡ 0x78) ⊎ ((b ≡ 0x79) ⊎ (b ≡ 0x7B)) → StopsWith (refusal old.meter (named bad_tag)) old new → found ≡ flow.Stopped → Tells (super_reason old b) s found old new
-super_other b s found old new (inl e) h ef = rw e (tells_refusal bad_tag (Some bad_tag) s found old new h ef refl)
-super_other b s found old new (inr (inl e)) h ef = rw e (tells_refusal bad_tag (Some bad_tag) s found old new h ef refl)
-super_other b s found old new (inr (inr e)) h ef = rw e (tells_refusal bad_tag (Some bad_tag) s found old new h ef refl)
-
-abbrev IsNoClass : ValueTag → Type 0
-IsNoClass value.Null = ⊥
-IsNoClass value.Reference = ⊥
-IsNoClass value.ClassDesc = ⊥
-IsNoClass value.ProxyClassDesc = ⊥
-IsNoClass _ = Unit {0}
-
-pub no_super_value : (t : ValueTag) (s : State) (found : Flow) (old new : Seen) → StopsWith (refusal old.meter (named bad_tag)) old new → found ≡ flow.Stopped → IsNoClass t → Tells (super_reason old (tag_byte (view_tag t))) s found old new
-no_super_value value.Object s found old new h ef i = tells_refusal bad_tag (Some bad_tag) s found old new h ef refl
-no_super_value value.String s found old new h ef i = tells_refusal bad_tag (Some bad_tag) s found old new h ef refl
-no_super_value value.LongString s found old new h ef i = tells_refusal bad_tag (Some bad_tag) s found old new h ef refl
-no_super_value value.Array s found old new h ef i = tells_refusal bad_tag (Some bad_tag) s found old new h ef refl
-no_super_value value.Class s found old new h ef i = tells_refusal bad_tag (Some bad_tag) s found old new h ef refl
-no_super_value value.Enum s found old new h ef i = tells_refusal bad_tag (Some bad_tag) s found old new h ef refl
-no_super_value value.Null s found old new h ef i = absurd i
-no_super_value value.Reference s found old new h ef i = absurd i
-no_super_value value.ClassDesc s found old new h ef i = absurd i
-no_super_value value.ProxyClassDesc s found old new h ef i = absurd i
-
-pub super_value_tag : (t : ValueTag) (b : ℕ) (found : Flow) (old new : Seen) → b ≡ tag_byte (view_tag t)
-    → (HasDescriptor old.frames → Tells (super_reason old (tag_byte (view_tag t))) (after_super_tag old (tag_from (tag_byte (view_tag t)))) found old new)
-    → HasDescriptor old.frames → Tells (super_reason old b) (after_super_tag old (tag_from b)) found old new
-super_value_tag t b found old new e h d = rw e (h d)
+pub no_super_tag : (b : ℕ) (s : State) (found : Flow) (old new : Seen) → (b ≡ 0x70 → ⊥) → (b ≡ 0x71 → ⊥) → (b ≡ 0x72 → ⊥) → (b ≡ 0x7D → ⊥)
+    → StopsWith (refusal old.meter (named bad_tag)) old new → found ≡ flow.Stopped → Tells (super_reason old b) s found old new
+no_super_tag b s found old new null reference class proxy h ef =
+    let k = not_known b (chain_owner old.frames) (strict_in old.layers old.frames) null reference class proxy in
+    tells_refusal bad_tag (super_reason old b) s found old new h ef (rw k refl)
 
 -- handles
 

@@ -38,7 +38,7 @@ use Rattle.jser_reader.proofs.ValueLemmas.{back_begun, object_begun, array_begun
 use Rattle.jser_reader.proofs.NumberLemmas.{right_handle, no_bytes, some_bytes}
 use Rattle.jser_reader.proofs.TagLemmas.{top_value, note_value, value_value, top_block, note_block}
 use Rattle.jser_reader.proofs.TakeLemmas.{counts_bytes, takes_top, takes_note, takes_value, takes_class_tag, takes_block_length, one_taken, takes_back_handle, takes_class_handle}
-use Rattle.jser_reader.proofs.ClassLemmas.{value_tag, class_reference}
+use Rattle.jser_reader.proofs.ClassLemmas.{class_reference}
 use Rattle.jser_reader.proofs.PhaseLemmas.{whole_open}
 use Rattle.jser_reader.proofs.CutLemmas.{four_taken}
 use Rattle.jser_reader.proofs.TakeRawLemmas.{takes_prims, takes_block}
@@ -260,10 +260,9 @@ at_class r = record {
 pub class_tag_taken : (r : Seen) → r.phase ≡ phase.ClassTag → TakesByte 0x71 flow.On r (at_class r)
 class_tag_taken r ep =
     takes_class_tag 0x71 flow.On r (farther r 1) (at_class r)
-    (value_tag value.Reference 0x71 flow.On (farther r 1) (at_class r) refl
-    (class_reference flow.On (farther r 1) (at_class r)
+    (class_reference 0x71 flow.On (farther r 1) (at_class r)
     (record { phase_is = refl; frames = refl; layers = refl; table = refl; refs = refl; owner_is = refl; chain_is = refl; header_is = refl; text_is = refl; left = refl; meter = refl })
-    refl))
+    refl refl)
     refl ep
 
 pub same_class : (o : Owner) (r : Seen) → with_class o r ≡ farther (at_class (begun_owner o r)) 4

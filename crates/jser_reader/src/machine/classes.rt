@@ -2,20 +2,18 @@
 ghost use Rattle.std.specs.Prelude.{◌-◌, length, suc};
 ghost use Rattle.jser_table.specs.Entries.{chain_at};
 ghost use Rattle.jser_grammar.specs.Wire.{TC_PROXYCLASSDESC, BASE_WIRE_HANDLE};
-ghost use Rattle.jser_reading.specs.TokenBytes.{tag_byte};
 ghost use Rattle.jser_reading.specs.TokensFromBytes.{tag_from};
 ghost use Rattle.jser_reading.specs.Labels.{class_place_at, class_handle_at};
 ghost use Rattle.jser_verdict.specs.Verdicts.{class_tag_reason, class_handle_reason};
 ghost use Rattle.jser_reader.specs.Frames.{goal_owner};
 ghost use Rattle.jser_reader.specs.Handlers.{Tells, plain_gate, label_at, after_class_tag, owner_state};
-ghost use Rattle.jser_reader.specs.Tags.{view_tag};
 
 use crate::frame::{Owner, Role};
 use crate::machine::Machine;
 use crate::machine::flow::Flow;
 use crate::phase::Phase;
 use crate::refusal::Reason;
-use crate::tag::{Tag, ValueTag, tag_of};
+use jser_grammar::wire::{TC_CLASSDESC, TC_NULL, TC_PROXYCLASSDESC, TC_REFERENCE};
 
 impl Machine {
     /// A new proxy descriptor as the class of the owner.
@@ -32,39 +30,18 @@ impl Machine {
         }
     }
 
-    /// A value's tag in a class place.
-    #[tactic(auto, using(crate::proofs::ClassLemmas::class_reference, crate::proofs::ClassLemmas::new_class, crate::proofs::ClassLemmas::null_class_tag, crate::proofs::ClassLemmas::proxy_tag, crate::proofs::ClassLemmas::no_class_value))]
-    fn class_value(&mut self, tag: ValueTag) -> Flow
-        ensures { Tells (class_tag_reason (plain_gate self.old) (label_at (class_place_at (goal_owner self.old.owner)) (suc (length self.old.frames)) self.old) (goal_owner self.old.owner) (tag_byte (view_tag tag)))
-            (after_class_tag self.old (tag_from (tag_byte (view_tag tag)))) result self.old self.new }
-    {
-        match tag {
-            ValueTag::Reference => self.done(Phase::ClassHandle),
-            ValueTag::ClassDesc => self.new_class(Role::ClassOf(self.owner)),
-            ValueTag::ProxyClassDesc => self.proxy_class(),
-            ValueTag::Null => self.refuse(Reason::NullClass),
-            ValueTag::Object => self.refuse(Reason::BadTag),
-            ValueTag::String => self.refuse(Reason::BadTag),
-            ValueTag::LongString => self.refuse(Reason::BadTag),
-            ValueTag::Array => self.refuse(Reason::BadTag),
-            ValueTag::Class => self.refuse(Reason::BadTag),
-            ValueTag::Enum => self.refuse(Reason::BadTag),
-        }
-    }
-
     /// A tag in a class place.
-    #[tactic(auto, using(crate::proofs::ClassLemmas::no_class_tag, crate::proofs::ClassLemmas::value_tag, crate::proofs::ClassLemmas::class_block, crate::proofs::ClassLemmas::class_other))]
+    #[tactic(auto, using(crate::proofs::ClassLemmas::class_reference, crate::proofs::ClassLemmas::new_class, crate::proofs::ClassLemmas::null_class_tag, crate::proofs::ClassLemmas::no_class_tag))]
     pub(super) fn class_tag(&mut self, byte: u8) -> Flow
         ensures { Tells (class_tag_reason (plain_gate self.old) (label_at (class_place_at (goal_owner self.old.owner)) (suc (length self.old.frames)) self.old) (goal_owner self.old.owner) byte)
             (after_class_tag self.old (tag_from byte)) result self.old self.new }
     {
-        match tag_of(byte) {
-            None => self.refuse(Reason::BadTag),
-            Some(Tag::Value(tag)) => self.class_value(tag),
-            Some(Tag::Block(_)) => self.refuse(Reason::BadTag),
-            Some(Tag::EndBlockData) => self.refuse(Reason::BadTag),
-            Some(Tag::Reset) => self.refuse(Reason::BadTag),
-            Some(Tag::Exception) => self.refuse(Reason::BadTag),
+        match byte {
+            TC_REFERENCE => self.done(Phase::ClassHandle),
+            TC_CLASSDESC => self.new_class(Role::ClassOf(self.owner)),
+            TC_PROXYCLASSDESC => self.proxy_class(),
+            TC_NULL => self.refuse(Reason::NullClass),
+            _ => self.refuse(Reason::BadTag),
         }
     }
 

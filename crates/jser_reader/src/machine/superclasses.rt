@@ -1,9 +1,7 @@
 //! Superclass places: the tag, and the handle of a superclass that has been read.
 ghost use Rattle.std.specs.Prelude.{◌≡◌, ◌-◌, Some};
 ghost use Rattle.jser_grammar.specs.Wire.{TC_NULL, TC_REFERENCE, TC_CLASSDESC, TC_PROXYCLASSDESC, BASE_WIRE_HANDLE};
-ghost use Rattle.jser_reading.specs.TokenBytes.{tag_byte};
 ghost use Rattle.jser_reading.specs.TokensFromBytes.{tag_from};
-ghost use Rattle.jser_reader.specs.Tags.{view_tag};
 ghost use Rattle.jser_reader.specs.Fitting.{HasDescriptor};
 ghost use Rattle.jser_reader.specs.Handlers.{Tells};
 ghost use Rattle.jser_reader.specs.Closing.{closed_state};
@@ -14,8 +12,9 @@ use crate::machine::Machine;
 use crate::machine::flow::Flow;
 use crate::phase::Phase;
 use crate::refusal::Reason;
-use crate::tag::{Tag, ValueTag, tag_of};
-use jser_grammar::wire::BASE_WIRE_HANDLE;
+use jser_grammar::wire::{
+    BASE_WIRE_HANDLE, TC_CLASSDESC, TC_NULL, TC_PROXYCLASSDESC, TC_REFERENCE,
+};
 
 impl Machine {
     /// Whether the superclass of the descriptor on top must be a proxy or serializable.
@@ -86,39 +85,18 @@ impl Machine {
         self.new_proxy(Role::Superclass { strict })
     }
 
-    /// A value's tag in a superclass place.
-    #[tactic(auto, using(crate::proofs::SuperTagLemmas::no_super_value))]
-    #[inline(always)]
-    fn super_value(&mut self, tag: ValueTag) -> Flow
-        ensures { HasDescriptor self.old.frames → Tells (super_reason self.old (tag_byte (view_tag tag))) (after_super_tag self.old (tag_from (tag_byte (view_tag tag)))) result self.old self.new }
-    {
-        match tag {
-            ValueTag::Null => self.null_super(),
-            ValueTag::Reference => self.back_super(),
-            ValueTag::ClassDesc => self.plain_super(),
-            ValueTag::ProxyClassDesc => self.proxy_super(),
-            ValueTag::Object => self.refuse(Reason::BadTag),
-            ValueTag::String => self.refuse(Reason::BadTag),
-            ValueTag::LongString => self.refuse(Reason::BadTag),
-            ValueTag::Array => self.refuse(Reason::BadTag),
-            ValueTag::Class => self.refuse(Reason::BadTag),
-            ValueTag::Enum => self.refuse(Reason::BadTag),
-        }
-    }
-
     /// A tag in a superclass place.
-    #[tactic(auto, using(crate::proofs::SuperTagLemmas::no_super_tag, crate::proofs::SuperTagLemmas::super_value_tag, crate::proofs::SuperTagLemmas::super_block, crate::proofs::SuperTagLemmas::super_other))]
+    #[tactic(auto, using(crate::proofs::SuperTagLemmas::no_super_tag))]
     #[inline(always)]
     pub(super) fn super_tag(&mut self, byte: u8) -> Flow
         ensures { HasDescriptor self.old.frames → Tells (super_reason self.old byte) (after_super_tag self.old (tag_from byte)) result self.old self.new }
     {
-        match tag_of(byte) {
-            None => self.refuse(Reason::BadTag),
-            Some(Tag::Value(tag)) => self.super_value(tag),
-            Some(Tag::Block(_)) => self.refuse(Reason::BadTag),
-            Some(Tag::EndBlockData) => self.refuse(Reason::BadTag),
-            Some(Tag::Reset) => self.refuse(Reason::BadTag),
-            Some(Tag::Exception) => self.refuse(Reason::BadTag),
+        match byte {
+            TC_NULL => self.null_super(),
+            TC_REFERENCE => self.back_super(),
+            TC_CLASSDESC => self.plain_super(),
+            TC_PROXYCLASSDESC => self.proxy_super(),
+            _ => self.refuse(Reason::BadTag),
         }
     }
 
