@@ -45,78 +45,8 @@ impl Machine {
         self.fields.push(code, is_object).is_ok()
     }
 
-    /// Takes a field with this type code of a primitive type, whose name has so many bytes; or does nothing.
-    #[inline(always)]
-    fn raw_member<'p>(&mut self, piece: &'p [u8], code: u8, len: usize) -> Option<Field<'p>>
-        requires can { CanPass self.old piece.now }
-        requires phase { self.old.phase ≡ Phase.TypeCode }
-        requires code { code ≡ get_or piece.now 0 0 }
-        requires raw { false ≡ is_object_code code }
-        requires name { HasText piece.now len }
-        ensures { FieldCases piece.now result self.old self.new }
-    {
-        if !self.begin_member(code, false) {
-            return None;
-        }
-        self.at += len as u64 + 3;
-        self.fields_done();
-        Some(Field {
-            code,
-            name: text_in(piece, len),
-            type_handle: None,
-        })
-    }
-
-    /// Takes the type code of an object or an array and the name of its field, which has so many bytes; or does nothing.
-    #[inline(always)]
-    fn named_member<'p>(&mut self, piece: &'p [u8], code: u8, len: usize) -> Option<Field<'p>>
-        requires can { CanPass self.old piece.now }
-        requires phase { self.old.phase ≡ Phase.TypeCode }
-        requires code { code ≡ get_or piece.now 0 0 }
-        requires object { true ≡ is_object_code code }
-        requires name { HasText piece.now len }
-        ensures { FieldCases piece.now result self.old self.new }
-    {
-        if !self.begin_member(code, true) {
-            return None;
-        }
-        self.at += len as u64 + 3;
-        self.next_type();
-        Some(Field {
-            code,
-            name: text_in(piece, len),
-            type_handle: None,
-        })
-    }
-
-    /// Takes a field with this type code of an object or an array, whose name has so many bytes, with its type where that is
-    /// a reference that is whole in the piece; or does nothing.
-    #[inline(always)]
-    fn typed_member<'p>(&mut self, piece: &'p [u8], code: u8, len: usize) -> Option<Field<'p>>
-        requires can { CanPass self.old piece.now }
-        requires phase { self.old.phase ≡ Phase.TypeCode }
-        requires code { code ≡ get_or piece.now 0 0 }
-        requires object { true ≡ is_object_code code }
-        requires name { HasText piece.now len }
-        ensures { FieldCases piece.now result self.old self.new }
-    {
-        let (_, rest) = piece.split_at(len + 3);
-        let Some(handle) = self.type_here(rest) else {
-            return self.named_member(piece, code, len);
-        };
-        if !self.begin_member(code, true) {
-            return None;
-        }
-        self.at += len as u64 + 8;
-        self.fields_done();
-        Some(Field {
-            code,
-            name: text_in(piece, len),
-            type_handle: Some(handle),
-        })
-    }
-
-    /// Takes a field of a descriptor, where it is whole in the piece, and lends it; or does nothing.
+    /// Takes a field of a descriptor, where it is whole in the piece, and lends it; or does nothing. Its type is taken too, where it is
+    /// a reference that is whole in the piece.
     #[inline(always)]
     fn whole_member<'p>(&mut self, piece: &'p [u8]) -> Option<Field<'p>>
         requires can { CanPass self.old piece.now }
@@ -127,10 +57,42 @@ impl Machine {
             return None;
         };
         let code = piece[0];
-        if is_object_code(code) {
-            return self.typed_member(piece, code, len);
+        let name = text_in(piece, len);
+        if !is_object_code(code) {
+            if !self.begin_member(code, false) {
+                return None;
+            }
+            self.at += len as u64 + 3;
+            self.fields_done();
+            return Some(Field {
+                code,
+                name,
+                type_handle: None,
+            });
         }
-        self.raw_member(piece, code, len)
+        let (_, rest) = piece.split_at(len + 3);
+        let Some(handle) = self.type_here(rest) else {
+            if !self.begin_member(code, true) {
+                return None;
+            }
+            self.at += len as u64 + 3;
+            self.next_type();
+            return Some(Field {
+                code,
+                name,
+                type_handle: None,
+            });
+        };
+        if !self.begin_member(code, true) {
+            return None;
+        }
+        self.at += len as u64 + 8;
+        self.fields_done();
+        Some(Field {
+            code,
+            name,
+            type_handle: Some(handle),
+        })
     }
 
     /// Takes a declared field that comes next, where it is whole in the piece, and lends it; or does nothing.
