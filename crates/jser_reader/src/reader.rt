@@ -108,8 +108,7 @@ impl<G: Gate> Reader<G> {
             Taken::Stopped(_) => Err(self.machine.answer()),
             _ => {
                 if front.len() < piece.len() {
-                    self.machine.count_end(&mut self.tally);
-                    return Err(self.machine.exceed());
+                    return Err(self.machine.exceed(&mut self.tally));
                 }
                 Ok(Step::More)
             }
@@ -141,8 +140,7 @@ impl<G: Gate> Reader<G> {
         }
         let front = self.machine.within(piece);
         if front.is_empty() {
-            self.machine.count_end(&mut self.tally);
-            return Err(self.machine.exceed());
+            return Err(self.machine.exceed(&mut self.tally));
         }
         self.step(piece, front)
     }
@@ -193,7 +191,7 @@ impl<G: Gate> Reader<G> {
             return Err(self.machine.truncate());
         }
         let totals = self.machine.totals(self.tally);
-        self.machine.count_end(&mut self.tally);
+        self.machine.keep_whole(&mut self.tally);
         self.machine.end();
         Ok(totals)
     }

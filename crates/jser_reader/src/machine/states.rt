@@ -113,9 +113,11 @@ impl Machine {
 
     /// One byte more than the limit has come.
     #[inline(never)]
-    pub(crate) fn exceed(&mut self) -> Stop
-        ensures { self.old.meter.at + 1 < 2 ^ 64 → (result ≡ exceeded self.old.meter) × StopsWith (exceeded self.old.meter) self.old self.new }
+    pub(crate) fn exceed(&mut self, tally: &mut Tally) -> Stop
+        ensures stops { self.old.meter.at + 1 < 2 ^ 64 → (result ≡ exceeded self.old.meter) × StopsWith (exceeded self.old.meter) self.old self.new }
+        ensures tally { tally.new ≡ tally_stopped self.old tally.old }
     {
+        self.keep_whole(tally);
         self.at = self.at.saturating_add(1);
         self.refuse(Reason::BytesExceeded);
         self.stop
@@ -159,9 +161,9 @@ impl Machine {
         tally.begun = self.at;
     }
 
-    /// Nothing more is taken.
+    /// Called when the reader ends: fixes `begun`, so that `whole` keeps its answer.
     #[inline(always)]
-    pub(crate) fn count_end(&self, tally: &mut Tally)
+    pub(crate) fn keep_whole(&self, tally: &mut Tally)
         ensures { tally.new ≡ tally_stopped self.now tally.old }
     {
         tally.begun = self.whole(*tally);

@@ -26,8 +26,7 @@ impl<G: Gate> Reader<G> {
     {
         let front = self.machine.within(piece);
         if front.is_empty() {
-            self.machine.count_end(&mut self.tally);
-            let _ = self.machine.exceed();
+            let _ = self.machine.exceed(&mut self.tally);
             return Passed::Stopped;
         }
         self.pass_token(front)

@@ -24,9 +24,9 @@ returns-then-is_empty-clause-stays g c = not_stopped _ _ _ (search rules)
 
 pub returns-then-is_empty-2-clause-tells : goal.returns-then-is_empty-2-clause-tells
 returns-then-is_empty-2-clause-tells g c =
-    subst (λ r. NextTells (g.G.Gate.told r.gate) c.args.piece.now (Err c.exceed.result) r.machine r.tally c.exceed.new.self c.count_end.new.tally) c.self.view_is
+    subst (λ r. NextTells (g.G.Gate.told r.gate) c.args.piece.now (Err c.exceed.result) r.machine r.tally c.exceed.new.self c.exceed.new.tally) c.self.view_is
     (next_full c.exceed.result c.args.piece.now c.within-front.result.now _ _ _ _ _ c.within-front.ensures (all_bytes c.args.piece.now (λ k. omega (arith, c.type_inv.piece k)))
-    (search rules) (search rules) c.exceed.ensures (search rules) (search rules))
+    (search rules) (search rules) c.exceed.ensures.stops (search rules) (search rules))
 
 pub returns-then-is_empty-2-clause-stays : goal.returns-then-is_empty-2-clause-stays
 returns-then-is_empty-2-clause-stays g c = not_stopped _ _ _ (search rules)
@@ -53,7 +53,7 @@ pub returns-then-is_empty-2-clause-memory : goal.returns-then-is_empty-2-clause-
 returns-then-is_empty-2-clause-memory g c =
     subst (λ r. MemoryFree (g.G.Gate.told r.gate) c.args.piece.now (Err c.exceed.result) r.machine r.tally) c.self.view_is
     (free_full c.exceed.result c.args.piece.now c.within-front.result.now _ _ _ _ c.within-front.ensures (all_bytes c.args.piece.now (λ k. omega (arith, c.type_inv.piece k)))
-    (search rules) c.exceed.ensures (search rules))
+    (search rules) c.exceed.ensures.stops (search rules))
 
 -- The check finds what follows with no answer too; with one, it refuses a wrong body sooner.
 

@@ -12,8 +12,8 @@ pass_token-requires-clause-can g c =
 
 pub returns-then-is_empty-clause-passes : goal.returns-then-is_empty-clause-passes
 returns-then-is_empty-clause-passes g c =
-    subst (λ r. Passes (g.G.Gate.told r.gate) c.args.piece.now None r.machine r.tally c.exceed.new.self c.count_end.new.tally) c.self.view_is
-    (passes_full c.exceed.result c.args.piece.now c.within-front.result.now _ _ _ _ _ c.within-front.ensures (all_bytes c.args.piece.now (λ k. omega (arith, c.type_inv.piece k))) (search rules) (search rules) c.exceed.ensures (search rules) (search rules))
+    subst (λ r. Passes (g.G.Gate.told r.gate) c.args.piece.now None r.machine r.tally c.exceed.new.self c.exceed.new.tally) c.self.view_is
+    (passes_full c.exceed.result c.args.piece.now c.within-front.result.now _ _ _ _ _ c.within-front.ensures (all_bytes c.args.piece.now (λ k. omega (arith, c.type_inv.piece k))) (search rules) (search rules) c.exceed.ensures.stops (search rules) (search rules))
 
 pub returns-clause-passes : goal.returns-clause-passes
 returns-clause-passes g c =

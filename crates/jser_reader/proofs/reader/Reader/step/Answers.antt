@@ -42,8 +42,8 @@ returns-in-Stopped-clause-tells g c =
 
 pub returns-then-front-piece-clause-tells : goal.returns-then-front-piece-clause-tells
 returns-then-front-piece-clause-tells g c =
-    subst (λ r. NextTells (g.G.Gate.told r.gate) c.args.piece.now (Err c.exceed.result) r.machine r.tally c.exceed.new.self c.count_end.new.tally) c.self.view_is
-    (step_over c.exceed.result _ c.args.piece.now c.args.front.now _ _ _ _ _ _ _ c.take.ensures c.in_default.is c.count.ensures.quiet c.exceed.ensures (subst (λ r. IsWithin r.machine c.args.piece.now c.args.front.now) (sym c.self.view_is) c.requires.within)
+    subst (λ r. NextTells (g.G.Gate.told r.gate) c.args.piece.now (Err c.exceed.result) r.machine r.tally c.exceed.new.self c.exceed.new.tally) c.self.view_is
+    (step_over c.exceed.result _ c.args.piece.now c.args.front.now _ _ _ _ _ _ _ c.take.ensures c.in_default.is c.count.ensures.quiet c.exceed.ensures.stops (subst (λ r. IsWithin r.machine c.args.piece.now c.args.front.now) (sym c.self.view_is) c.requires.within)
     (all_bytes c.args.piece.now (λ k. omega (arith, c.type_inv.piece k))) c.if-front-piece.true (search rules) (search rules))
 
 pub returns-else-front-piece-clause-tells : goal.returns-else-front-piece-clause-tells
@@ -92,7 +92,7 @@ returns-in-Stopped-clause-memory g c =
 pub returns-then-front-piece-clause-memory : goal.returns-then-front-piece-clause-memory
 returns-then-front-piece-clause-memory g c =
     subst (λ r. MemoryFree (g.G.Gate.told r.gate) c.args.piece.now (Err c.exceed.result) r.machine r.tally) c.self.view_is
-    (free_limit c.exceed.result _ c.args.piece.now c.args.front.now _ _ _ _ _ c.take.ensures c.in_default.is c.exceed.ensures (subst (λ r. IsWithin r.machine c.args.piece.now c.args.front.now) (sym c.self.view_is) c.requires.within)
+    (free_limit c.exceed.result _ c.args.piece.now c.args.front.now _ _ _ _ _ c.take.ensures c.in_default.is c.exceed.ensures.stops (subst (λ r. IsWithin r.machine c.args.piece.now c.args.front.now) (sym c.self.view_is) c.requires.within)
     (all_bytes c.args.piece.now (λ k. omega (arith, c.type_inv.piece k))) (search rules))
 
 pub returns-else-front-piece-clause-memory : goal.returns-else-front-piece-clause-memory
