@@ -185,16 +185,13 @@ impl Machine {
     }
 
     /// A value has ended, below the top of the stream.
-    #[tactic(auto, using(crate::proofs::PartLemmas::field_ready, crate::proofs::PartLemmas::field_kept, crate::proofs::PartLemmas::field_same, crate::proofs::PartLemmas::none_left))]
     #[inline(never)]
     fn frames_done(&mut self)
         ensures ready { Ready self.new (after_value self.old) }
         ensures kept { Kept self.old self.new }
         ensures meter { self.new.meter ≡ self.old.meter }
     {
-        if !self.next_field() {
-            self.next_parts();
-        }
+        self.value_done_in_line();
     }
 
     /// A value has ended below the top of the stream, the last one of what is on top.
