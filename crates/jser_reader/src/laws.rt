@@ -4,8 +4,7 @@
 ghost use Rattle.jser_reader.specs.TokenLaws.{BytesAreTokens, TokensBeginStreams};
 ghost use Rattle.jser_reader.specs.WholeContents.{OneIsWhole};
 
-/// A reader stands for bytes exactly where it stands for whole tokens, and bytes of the next one, into which these bytes
-/// are cut.
+/// A reader stands for bytes exactly if they are whole tokens and a rest, and it stands in these (`StandsIn`).
 pub fn bytes_are_tokens()
     ensures { BytesAreTokens }
 {}

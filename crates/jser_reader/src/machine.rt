@@ -59,11 +59,13 @@ pub(crate) struct Machine {
     owner: Owner,
     /// The size of the elements of the array whose length comes next, where they are raw values.
     elements: Option<u8>,
-    /// What the descriptor is read as whose head is being read, what its name said, its fields, and how many
-    /// interfaces of a proxy are still to come.
+    /// What the descriptor being read is for.
     role: Role,
+    /// What its name says it is: an array class or another.
     kind: LayerKind,
+    /// Its fields so far.
     fields: FieldList,
+    /// Interfaces still to come (proxy only).
     interfaces: u32,
     /// The layer of the innermost descriptor that is open, and those of the others.
     layer: KeptLayer,

@@ -26,7 +26,7 @@ use jser_table::Table;
 use std::alloc::Global;
 use std::marker::Model;
 
-/// The item that so many bytes of a piece give, of a token of which others were kept.
+/// The step for the first `used` bytes of `front`; `kept` has earlier bytes of the same token.
 #[tactic(auto, using(crate::proofs::ItemLemmas::makes_step))]
 #[inline(always)]
 fn lend<'p>(token: Phase, kept: Kept, front: &'p [u8], used: usize) -> Step<'p>

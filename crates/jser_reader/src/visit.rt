@@ -27,7 +27,7 @@ pub struct Whereabouts {
 }
 
 impl Whereabouts {
-    /// Where an item stands that ends so many bytes earlier, with as many handles before it.
+    /// The whereabouts of an item that ends `bytes` bytes earlier, with the same handles.
     #[inline(always)]
     fn earlier(self, bytes: u64) -> Whereabouts
         ensures { result ≡ record { handles = self.handles; end = self.end - bytes } }

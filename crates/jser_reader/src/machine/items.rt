@@ -57,9 +57,7 @@ fn long_of(bytes: &[u8]) -> u64
     read_u64(bytes)
 }
 
-/// The item that a whole token is whose bytes these are: the header, a tag or a number.
-///
-/// The token tells the item, and so how many bytes it has; a caller that asks which item it is need not ask again.
+/// The item of a whole token (header, tag or number) from its bytes.
 #[inline(always)]
 fn whole_item<'p>(token: Phase, bytes: &[u8]) -> Item<'p>
     ensures { length bytes.now ≡ size_of_phase token → result ≡ number_item token (number_of bytes.now) }

@@ -15,9 +15,9 @@ use crate::phase::{Phase, TextFor};
 use jser_table::{ChainNumber, Kind};
 
 impl Machine {
-    /// Puts the frame of what begins on the stack, to be told which part of it comes first.
+    /// Pushes a frame as a placeholder. An externalizable object keeps it; for another object `begin_section` replaces it.
     #[tactic(auto, using(crate::proofs::OwnerLemmas::pushes, crate::proofs::OwnerLemmas::pushes_nothing, crate::proofs::OwnerLemmas::fits_external, crate::proofs::LayerLemmas::layers_under_part))]
-    fn open(&mut self) -> Flow
+    fn push_placeholder(&mut self) -> Flow
         ensures frame { Pushes Frame.ExternalNotes result self.old self.new }
         ensures parts { result ≡ Flow.On → HasParts self.new.frames }
         ensures table { result ≡ Flow.On → self.new.table ≡ self.old.table }
@@ -35,7 +35,7 @@ impl Machine {
         ensures { BeginsObject (chain_in self.old.table.chains chain) result self.old self.new }
     {
         if self.table.is_external(chain) {
-            let Flow::On = self.open() else {
+            let Flow::On = self.push_placeholder() else {
                 return Flow::Stopped;
             };
             self.phase = Phase::Note;
@@ -45,7 +45,7 @@ impl Machine {
             self.value_done();
             return Flow::On;
         };
-        let Flow::On = self.open() else {
+        let Flow::On = self.push_placeholder() else {
             return Flow::Stopped;
         };
         self.begin_section(sections.last, sections.first);

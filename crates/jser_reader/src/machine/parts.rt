@@ -51,8 +51,7 @@ impl Machine {
         }
     }
 
-    /// The number of the section after this one, if there is one. What the table keeps to find the next ones sooner is no part of
-    /// the machine.
+    /// The section after this one, if there is one. The table's cache may change; contracts do not see it.
     #[inline(always)]
     pub(super) fn section_behind(
         &mut self,
@@ -102,7 +101,7 @@ impl Machine {
         self.next_section(last, section)
     }
 
-    /// The next raw value or value of what is on top comes next, if one is left there.
+    /// Expects the next raw value or value of the frame on top; false if none is left.
     #[tactic(auto, using(crate::proofs::PartLemmas::fits_value, crate::proofs::PartLemmas::value_comes, crate::proofs::PartLemmas::fits_raw, crate::proofs::PartLemmas::raw_stands, crate::proofs::PartLemmas::raw_comes, crate::proofs::PartLemmas::none_comes, crate::proofs::LayerLemmas::layers_of_value, crate::proofs::LayerLemmas::layers_of_raw))]
     #[inline(always)]
     fn next_field(&mut self) -> bool
@@ -123,8 +122,7 @@ impl Machine {
         }
     }
 
-    /// What comes after the fields or elements of what is on top, which is this frame; where nothing does, the frame is
-    /// taken off.
+    /// Expects what follows the last value of `frame`, the frame on top. Pops it and answers false if nothing follows.
     #[tactic(auto, using(crate::proofs::PartLemmas::fits_tail, crate::proofs::PartLemmas::after_elements, crate::proofs::PartLemmas::after_section, crate::proofs::PartLemmas::after_sections, crate::proofs::PartLemmas::at_notes, crate::proofs::LayerLemmas::layers_of_tail))]
     fn after_fields(&mut self, frame: Frame) -> bool
         requires top { self.old.frames ≡ frame ∷ tail_of self.old.frames }

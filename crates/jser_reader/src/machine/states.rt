@@ -55,8 +55,8 @@ impl Machine {
         }
     }
 
-    /// The machine as `new` makes it, whatever it was, with these limits. It keeps its memory;
-    /// what it holds besides is set again before it is asked.
+    /// Makes it a machine that has taken nothing, with these limits. It keeps its memory. Members not set here are written before
+    /// anything depends on them.
     #[tactic(auto, using(crate::proofs::LayerLemmas::no_layers))]
     pub(crate) fn restart(&mut self, limits: Limits)
         ensures new { IsNew self.new }
@@ -123,7 +123,7 @@ impl Machine {
         self.stop
     }
 
-    /// Counts what this tag says beside a content.
+    /// Updates the tally for a tag: the depth for a value's tag, the handles of earlier epochs for a reset.
     #[tactic(auto, using(crate::proofs::CountSteps::counts_end, crate::proofs::CountSteps::counts_exception, crate::proofs::CountSteps::counts_other))]
     #[inline(always)]
     fn count_tag(&self, tally: &mut Tally, tag: u8)

@@ -19,7 +19,7 @@ use jser_table::{Class, KeptLayer, LayerKind};
 /// What came of closing a descriptor.
 #[derive(Clone, Copy)]
 enum Closing {
-    /// What waited for it has begun, or the machine has stopped: a handler's answer.
+    /// No descriptor waits for this one: the owner's data has begun, a value has ended, or the machine has stopped.
     Ended(Flow),
     /// It is the superclass of the descriptor that is on top now.
     Superclass(u32),

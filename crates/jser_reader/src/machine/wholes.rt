@@ -120,8 +120,8 @@ impl Machine {
         self.at += size;
     }
 
-    /// Counts the place of what has a class, where that is a reference: its tag and the six bytes up to the end of the handle were
-    /// taken, and the handle comes next.
+    /// Counts the place of a value whose class is a reference, and takes six bytes: its tag, the reference's tag, the handle. The
+    /// caller then gives the handle to `class_handle`.
     #[inline(always)]
     pub(crate) fn begin_class_reference(&mut self, owner: Owner)
         requires few { self.old.refs < self.old.meter.limits.refs }

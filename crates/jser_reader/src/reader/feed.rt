@@ -127,7 +127,7 @@ impl<G: Gate> Reader<G> {
         }
     }
 
-    /// Where that stands which was just taken, and before which so many handles were assigned.
+    /// The whereabouts of what was just taken; `handles` were assigned before its first token.
     #[inline(always)]
     fn whereabouts(&self, handles: u32) -> Whereabouts
         ensures { result ≡ record { handles = handles; end = self.now.machine.meter.at } }

@@ -7,7 +7,7 @@ ghost use Rattle.jser_reader.specs.Many.{with_block, with_place, with_used, with
 pub(super) struct Begun {
     /// How many have begun in the piece.
     pub(super) count: u64,
-    /// How many bytes of the piece came before the one that is open, or comes next, where it begins in the piece.
+    /// Offset in the piece of the content that is open or comes next, if it begins in this piece.
     pub(super) last: usize,
 }
 

@@ -86,7 +86,8 @@ impl Machine {
         self.frames.next_value()
     }
 
-    /// A value has ended: what comes next is found, as long as it is a content or a value. Else a value has ended still.
+    /// Closes what ends with a value. `Next`: a content or value comes next. `Ended`: something else does; `pass_many` then calls
+    /// `value_done`.
     #[tactic(auto, using(crate::proofs::PartLemmas::fits_top))]
     #[inline(always)]
     pub(super) fn end_value(&mut self, counts: &mut Counts, piece: &[u8]) -> Turn

@@ -8,7 +8,7 @@ use crate::frame::Frame;
 use crate::machine::Machine;
 use jser_table::SectionNumber;
 
-/// What the data of an object come to.
+/// Where the raw values of an object's sections lead.
 #[derive(Clone, Copy)]
 pub(super) enum Began {
     /// So many bytes of raw values, and then values or an annotation, where this frame is on top.
@@ -20,7 +20,7 @@ pub(super) enum Began {
 }
 
 impl Machine {
-    /// What the sections come to from this one on, where so many bytes are there.
+    /// Goes over the raw values of the sections from `first` on, within `room` bytes, up to the first value or annotation.
     #[tactic(auto, using(crate::proofs::ManySections::no_raws, crate::proofs::ManySections::began_short))]
     #[inline(always)]
     pub(super) fn sections_from(

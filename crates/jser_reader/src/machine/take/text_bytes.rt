@@ -61,7 +61,7 @@ fn add_lanes<const N: usize>(name: &mut Vec<u16>, bytes: &[u8])
     }
 }
 
-/// Adds fewer than twice as many units of one byte each as there are lanes, where there is room for them.
+/// Adds units of one byte each: eight together if there are as many, the rest one by one.
 #[inline(always)]
 fn add_half(name: &mut Vec<u16>, bytes: &[u8])
     requires { vec_len name.old + length bytes.now ≤ vec_capacity name.old }
