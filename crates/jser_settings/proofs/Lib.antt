@@ -1,3 +1,4 @@
 pub mod FilterFileLemmas
 pub mod WholeLemmas
 pub mod FileFaultLemmas
+pub mod UnseenLemmas

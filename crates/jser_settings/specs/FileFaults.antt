@@ -1,9 +1,11 @@
 -- What is wrong with the lines of a filter's file.
-use Rattle.std.specs.Prelude.{ℕ, ◌+◌, ◌==◌, ◌&&◌, ◌||◌, nat_le, Bool, false, if◌then◌else◌, List, [], ◌∷◌, ◌++◌, codes, Option, Some, None}
+use Rattle.std.specs.Prelude.{ℕ, ◌+◌, ◌==◌, ◌&&◌, Bool, false, if◌then◌else◌, List, [], ◌∷◌, ◌++◌, codes, Option, Some, None, is_some}
+use Rattle.std.specs.Str.{chars}
 use Rattle.std.specs.List.{list_any}
 use Rattle.std.specs.Fmt.{decimal}
 use Rattle.jser_filter.specs.Cuts.{split_at_each}
 use Rattle.jser_settings.specs.FilterFiles.{uncommented, without_return}
+use Rattle.jser_settings.specs.Unseen.{first_unseen}
 use Rattle.jser_settings.specs.declared.file_fault.FileCause.{FileCause}
 use Rattle.jser_settings.specs.declared.file_fault.FileCause.TheVariants as cause
 use Rattle.jser_settings.specs.declared.file_fault.FileFault.{FileFault}
@@ -26,17 +28,9 @@ begins_with_mark (a ∷ b ∷ c ∷ bytes) = a == 0xEF && (b == 0xBB && c == 0xB
 abbrev pub has_sign : List ℕ → Bool
 has_sign line = list_any (λ b. b == 0x23) line
 
--- white space of ASCII: a space, and the controls from the tab to the carriage return
-abbrev pub is_blank : ℕ → Bool
-is_blank b = b == 0x20 || (nat_le 0x09 b && nat_le b 0x0D)
-
--- Some piece of a line begins or ends with white space. `before` is the character before; a line begins as if behind a `;`.
-abbrev pub has_blank_behind : ℕ → List ℕ → Bool
-has_blank_behind before [] = is_blank before
-has_blank_behind before (b ∷ line) = ((is_blank b && before == 0x3B) || (is_blank before && b == 0x3B)) || has_blank_behind b line
-
+-- some piece of a line begins or ends with a sign that nobody sees
 abbrev pub has_blank : List ℕ → Bool
-has_blank line = has_blank_behind 0x3B line
+has_blank line = is_some (first_unseen (chars line))
 
 -- of a line without its carriage return; a comment has no pieces
 abbrev pub cause_of : List ℕ → Option FileCause

@@ -1,9 +1,10 @@
 //! The first faulty line of a filter's file.
 ghost use Rattle.std.specs.Prelude.{◌≡◌, ◌<◌, ◌^◌, length};
-ghost use Rattle.jser_settings.specs.FileFaults.{begins_with_mark, cause_of, file_fault, has_blank, has_sign, is_blank};
+ghost use Rattle.jser_settings.specs.FileFaults.{begins_with_mark, cause_of, file_fault, has_sign};
 
 use crate::file_fault::{FileCause, FileFault};
 use crate::filter_file::{uncommented, without_return};
+use crate::unseen::first_unseen;
 
 /// The first faulty line of a text, if one is faulty.
 pub(crate) fn first_fault(text: &str) -> Option<FileFault>
@@ -19,7 +20,7 @@ pub(crate) fn first_fault(text: &str) -> Option<FileFault>
     let mut number: usize = 0;
     let mut rest = text;
     'lines: while let Some((line, after)) = rest.split_once('\n') {
-        if let Some(cause) = cause_of(uncommented(without_return(line)).as_bytes()) {
+        if let Some(cause) = cause_of(uncommented(without_return(line))) {
             return Some(FileFault {
                 line: number,
                 cause,
@@ -28,7 +29,7 @@ pub(crate) fn first_fault(text: &str) -> Option<FileFault>
         number += 1;
         rest = after;
     }
-    match cause_of(uncommented(rest).as_bytes()) {
+    match cause_of(uncommented(rest)) {
         Some(cause) => Some(FileFault {
             line: number,
             cause,
@@ -48,12 +49,12 @@ fn begins_with_mark(bytes: &[u8]) -> bool
 }
 
 /// What is wrong with a line, without its carriage return and its comment.
-fn cause_of(line: &[u8]) -> Option<FileCause>
+fn cause_of(line: &str) -> Option<FileCause>
     ensures { result ≡ cause_of line.now }
 {
-    if has_sign(line) {
+    if has_sign(line.as_bytes()) {
         Some(FileCause::NumberSign)
-    } else if has_blank(line) {
+    } else if first_unseen(line).is_some() {
         Some(FileCause::WhiteSpace)
     } else {
         None
@@ -65,25 +66,4 @@ fn has_sign(line: &[u8]) -> bool
     ensures { result ≡ has_sign line.now }
 {
     line.iter().any(|byte| *byte == b'#')
-}
-
-/// Whether some piece of a line begins or ends with white space.
-fn has_blank(line: &[u8]) -> bool
-    ensures { result ≡ has_blank line.now }
-{
-    let mut before = b';';
-    'bytes: for byte in line {
-        if (is_blank(*byte) && before == b';') || (is_blank(before) && *byte == b';') {
-            return true;
-        }
-        before = *byte;
-    }
-    is_blank(before)
-}
-
-/// Whether a byte is white space.
-fn is_blank(byte: u8) -> bool
-    ensures { result ≡ is_blank byte }
-{
-    byte == b' ' || (0x09..=0x0D).contains(&byte)
 }

@@ -10,7 +10,7 @@ pub enum FileCause {
     ByteOrderMark,
     /// A piece has a `#`.
     NumberSign,
-    /// A piece begins or ends with white space of ASCII.
+    /// A piece begins or ends with a sign that nobody sees: of Unicode's general category Cc, Cf, Zs, Zl or Zp.
     WhiteSpace,
 }
 

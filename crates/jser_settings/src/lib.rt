@@ -13,12 +13,13 @@ mod limit;
 mod no_pattern;
 mod settings;
 mod status;
+mod unseen;
 mod whole;
 
 pub use file_fault::{FileCause, FileFault};
 pub use file_text::{FileTextFault, filter_text_of};
 pub use limit::limit_of;
-pub use no_pattern::{note_modules, note_patterns};
+pub use no_pattern::{note_modules, note_patterns, note_text};
 pub use settings::{filter_in, filter_of, filter_text_in, modules_of};
 pub use status::{
     ACCEPTED, CUT, FAILED, MISUSED, REFUSED, tell_failure, tell_input_fault, tell_misuse,

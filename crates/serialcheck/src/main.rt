@@ -4,7 +4,9 @@
 //! does the work on what was opened.
 #![tactic(auto)]
 
-ghost use Rattle.std.specs.Prelude.{◌≡◌, ◌≢◌, ◌⊎◌, ◌≤◌, IfOk, IfErr, length, vec_len};
+ghost use Rattle.std.specs.Prelude.{◌≡◌, ◌≢◌, ◌⊎◌, ◌≤◌, None, [], IfOk, IfErr, IfSome, length, string_bytes, vec_len};
+ghost use Rattle.jser_prim.specs.ModifiedUtf8.{utf16_units};
+ghost use Rattle.jser_filter.specs.Pieces.{pieces_of};
 ghost use Rattle.jser_commands.specs.Lines.{HasLimit};
 ghost use Rattle.jser_explain.specs.Explains.{check_of};
 ghost use Rattle.serialcheck.specs.Jobs.{list_of};
@@ -34,7 +36,7 @@ use jser_prim::{FromRead, Sink, ToWrite};
 use jser_scan::{How, Rules};
 use jser_settings::{
     FAILED, filter_of, filter_text_in, limit_of, modules_of, note_modules, note_patterns,
-    tell_failure, tell_misuse,
+    note_text, tell_failure, tell_misuse,
 };
 use std::alloc::{AllocError, Global};
 use std::env;
@@ -292,6 +294,8 @@ pub(crate) fn filter_with<E: Sink>(
     filters: &Filters,
     faults: &mut E,
 ) -> Result<Filter, u8>
+    ensures given { IfSome filters.now.text (λ text. IfOk result (λ filter. filter.pieces ≡ pieces_of (utf16_units (string_bytes text)))) }
+    ensures plain { filters.now.modules ≡ None → IfOk result (λ filter. filter.modules ≡ []) }
     ensures { IfErr result (λ status. (status ≡ 2) ⊎ (status ≡ 3)) }
 {
     match filter_text(rt, filters, faults) {
@@ -300,16 +304,18 @@ pub(crate) fn filter_with<E: Sink>(
     }
 }
 
-/// The text of the filter: given, or that of a file. Where neither is given, it is empty.
+/// The text of the filter: given, or that of a file. Where neither is given, it is empty. What may not be meant so is told.
 pub(crate) fn filter_text<E: Sink>(
     rt: &HostRuntime,
     filters: &Filters,
     faults: &mut E,
 ) -> Result<String, u8>
+    ensures given { IfSome filters.now.text (λ text. IfOk result (λ made. string_bytes made ≡ string_bytes text)) }
     ensures { IfErr result (λ status. (status ≡ 2) ⊎ (status ≡ 3)) }
 {
     let alloc = rt.alloc();
     if let Some(text) = &filters.text {
+        note_text(alloc, text.as_str(), faults);
         return match String::from_str(alloc, text.as_str()) {
             Ok(text) => Ok(text),
             Err(_) => Err(tell_failure(faults, "out of memory\n")),
@@ -344,6 +350,8 @@ pub(crate) fn filter_reading<E: Sink>(
     text: &str,
     faults: &mut E,
 ) -> Result<Filter, u8>
+    ensures pieces { IfOk result (λ filter. filter.pieces ≡ pieces_of (utf16_units text.now)) }
+    ensures plain { filters.now.modules ≡ None → IfOk result (λ filter. filter.modules ≡ []) }
     ensures { IfErr result (λ status. (status ≡ 2) ⊎ (status ≡ 3)) }
 {
     let filter = match filter_of(rt.alloc(), text, faults) {
