@@ -12,7 +12,10 @@ import java.util.zip.GZIPInputStream;
 import java.util.zip.ZipException;
 import serialcheck.Guard;
 
-/** A body behind gzip, which the application would decompress: it is judged if its first bytes are those of a stream. */
+/**
+ * A body behind gzip, which the application would decompress: it is judged if its first bytes are those of a stream, or of gzip again,
+ * or if it cannot be decompressed, which another decompressor may do all the same. So these last two are refused.
+ */
 final class Zipped {
     private Zipped() {
     }
@@ -21,10 +24,10 @@ final class Zipped {
         return front.length > 1 && front[0] == 0x1F && front[1] == (byte) 0x8B;
     }
 
-    /** The body as it came, where what it spells is admitted or is no stream. */
+    /** The body as it came, where what it spells is admitted, or is no stream to any reader. */
     static InputStream judged(Guard guard, Supplier<String> what, InputStream in) throws IOException {
         Kept front = new Kept(in, guard.most());
-        if (!isStreamInside(front)) {
+        if (!isToBeJudged(front)) {
             return front.again();
         }
         // All of it, before it is inflated: where one part of it ends and the next has not come, a decompressor may stop.
@@ -39,13 +42,13 @@ final class Zipped {
         return whole.again();
     }
 
-    /** Whether the first bytes that come out of it are those of a stream, or could be: it reads no further than it must, or may. */
-    private static boolean isStreamInside(Kept in) throws IOException {
+    /** Whether the first bytes that come out of it could be those of a stream: it reads no further than it must, or may. */
+    private static boolean isToBeJudged(Kept in) throws IOException {
         try {
             byte[] front = new GZIPInputStream(in).readNBytes(2);
-            return front.length < 2 ? in.isFull() : Guard.isStream(front, front.length);
+            return front.length < 2 ? in.isFull() : Guard.isStream(front, front.length) || isZipped(front);
         } catch (ZipException | EOFException damaged) {
-            return in.isFull(); // else nobody gets bytes out of it
+            return true;
         }
     }
 
