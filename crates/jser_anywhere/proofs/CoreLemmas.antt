@@ -4,7 +4,8 @@ use Rattle.std.specs.Prelude.{nat_le}
 use Rattle.std.proofs.lemmas.Bool.Decides.{nat_tests}
 use Rattle.std.proofs.lemmas.List.{length-take-le}
 use Rattle.std.proofs.Math.Seq.{drop-length}
-use Rattle.jser_anywhere.specs.Names.{is_part, plain_from, is_plain, ends_in_brackets, ends_in_semicolon, inside, peeled, core_next, core_within, core}
+use Rattle.jser_table.specs.Names.{is_primitive_code}
+use Rattle.jser_anywhere.specs.Names.{is_part, plain_from, is_plain, ends_in_brackets, ends_in_semicolon, behind_bracket, inside, peeled, core_next, core_within, core}
 
 -- ---- plain names
 
@@ -62,19 +63,28 @@ plain_ends units i wants here end = sym (here ∙ ap (λ (n : ℕ). plain_from w
 
 -- ---- what is left is shorter
 
-inside_by : (a b : ℕ) (rest inner : List ℕ) (p q r : Bool) → (if p then (if q then Some (b ∷ rest) else (if r then Some (take (length rest - 1) rest) else None)) else None) ≡ Some inner
-    → length inner < length (a ∷ b ∷ rest)
-inside_by a b rest inner false q r e = absurd cc
-inside_by a b rest inner true true r e = let same : b ∷ rest ≡ inner = cc in omega (arith, ap length same)
-inside_by a b rest inner true false false e = absurd cc
-inside_by a b rest inner true false true e =
-    let same : take (length rest - 1) rest ≡ inner = cc in
-    omega (arith, ap length same, length-take-le (length rest - 1) rest (omega arith))
+behind_by : (a b : ℕ) (rest inner : List ℕ) (p : Bool) → (if p then Some (take (length rest) (b ∷ rest)) else Some (a ∷ b ∷ rest)) ≡ Some inner → length inner ≤ length (a ∷ b ∷ rest)
+behind_by a b rest inner false e = let same : a ∷ b ∷ rest ≡ inner = cc in omega (arith, ap length same)
+behind_by a b rest inner true e =
+    let same : take (length rest) (b ∷ rest) ≡ inner = cc in
+    omega (arith, ap length same, length-take-le (length rest) (b ∷ rest) (omega arith))
+
+letter_by : (a : ℕ) (inner : List ℕ) (p : Bool) → (if p then None else Some (a ∷ [])) ≡ Some inner → length inner ≤ 1
+letter_by a inner true e = absurd cc
+letter_by a inner false e = let same : a ∷ [] ≡ inner = cc in omega (arith, ap length same)
+
+behind_shorter : (rest inner : List ℕ) → behind_bracket rest ≡ Some inner → length inner ≤ length rest
+behind_shorter [] inner e = absurd cc
+behind_shorter (a ∷ []) inner e = letter_by a inner (is_primitive_code a) e
+behind_shorter (a ∷ b ∷ rest) inner e = behind_by a b rest inner (a == 0x4C && ends_in_semicolon (b ∷ rest)) e
+
+inside_by : (a : ℕ) (rest inner : List ℕ) (p : Bool) → (if p then behind_bracket rest else None) ≡ Some inner → length inner < length (a ∷ rest)
+inside_by a rest inner false e = absurd cc
+inside_by a rest inner true e = omega (arith, behind_shorter rest inner e)
 
 inside_shorter : (units inner : List ℕ) → inside units ≡ Some inner → length inner < length units
 inside_shorter [] inner e = absurd cc
-inside_shorter (a ∷ []) inner e = absurd cc
-inside_shorter (a ∷ b ∷ rest) inner e = inside_by a b rest inner (a == 0x5B) (b == 0x5B) (b == 0x4C && ends_in_semicolon rest) e
+inside_shorter (a ∷ rest) inner e = inside_by a rest inner (a == 0x5B) e
 
 first_of_three : (a b c : Bool) → (a && b && c) ≡ true → a ≡ true
 first_of_three true b c e = refl

@@ -52,7 +52,7 @@ wrapped_in (brackets ∷ wraps) plain units p w =
 wrapped_in (class ∷ wraps) plain units p w =
     subst (λ (xs : List ℕ). UnitsIn xs) (sym w.units_are) (refl, (refl, append_in w.inner (0x3B ∷ []) (wrapped_in wraps plain w.inner p w.inner_is) (refl, tt)))
 wrapped_in (bracket ∷ wraps) plain units p w =
-    subst (λ (xs : List ℕ). UnitsIn xs) (sym w.units_are) (refl, wrapped_in wraps plain (0x5B ∷ w.inner) p w.inner_is)
+    subst (λ (xs : List ℕ). UnitsIn xs) (sym w.units_are) (refl, wrapped_in wraps plain w.inner p w.inner_is.1)
 
 core_in_name : (units plain : List ℕ) → core units ≡ Some plain → UnitsIn units
 core_in_name units plain e =

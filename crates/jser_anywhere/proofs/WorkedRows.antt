@@ -5,7 +5,7 @@ use Rattle.jser_anywhere.specs.Texts.{row_from, row_units}
 use Rattle.jser_anywhere.specs.Names.{core, plain_from, name_units}
 use Rattle.jser_anywhere.specs.Search.{text_of, text_end, hidden_here}
 use Rattle.jser_anywhere.specs.Standing.{most_bytes, BeginsText, BeginsName, BeginsRow, Begins, StandsAt}
-use Rattle.jser_anywhere.specs.Worked.{letters, cut_row, is_a, WorkedRows}
+use Rattle.jser_anywhere.specs.Worked.{letters, cut_row, is_a, a_B, bracketed, bracketed_twice, bracketed_class, bracketed_class_twice, bracketed_row, WorkedRows}
 use Rattle.jser_anywhere.specs.declared.text.Place.TheVariants as place
 use Rattle.jser_anywhere.proofs.LoadableLemmas.{is_plain_name, reads_loadable}
 use Rattle.jser_anywhere.proofs.PlaceLemmas.{here_least, text_stands, as_name, NotBefore}
@@ -152,6 +152,46 @@ row_of_two count_high count_low low letter end text rest same e at later f named
   ends = omega arith;
 }
 
+-- ---- names with `[` before them
+
+named_alone : (low end : ℕ) (text : List ℕ) → text_of (0 ∷ low ∷ text) ≡ Some text → text_end (0 ∷ low ∷ text) ≡ end → core text ≡ Some a_B → StandsAt (0x72 ∷ 0 ∷ low ∷ text) 0 (1 + end) a_B
+named_alone low end text e at named = record { end = 1 + end; begins = one_name (0 ∷ low ∷ text) a_B end (name_text (0 ∷ low ∷ text) text a_B end e at named); ends = omega arith }
+
+-- the name at the head of a row, and one behind the text there
+first_of_row : (more : ℕ) (text bytes units : List ℕ) (end : ℕ) → text_of bytes ≡ Some text → text_end bytes ≡ end → core text ≡ Some units → BeginsRow (suc more) bytes end units
+first_of_row more text bytes units end e at named = inl (name_text bytes text units end e at named)
+
+next_of_row : (more end others : ℕ) (text bytes units : List ℕ) → text_of bytes ≡ Some text → text_end bytes ≡ end → BeginsRow more (drop end bytes) others units → BeginsRow (suc more) bytes (end + others) units
+next_of_row more end others text bytes units e at later =
+    inr (record { first = end; others = text; name = row_text bytes text end e at; more = others; later = later; ends = refl })
+
+behind_class_twice : BeginsRow 1 (drop 39 bracketed_row) 3 (0x63 ∷ [])
+unfolding text_of row_units core
+behind_class_twice = first_of_row 0 (0x63 ∷ []) (drop 39 bracketed_row) (0x63 ∷ []) 3 refl refl refl
+
+from_class_twice : (others : ℕ) (units : List ℕ) → BeginsRow 1 (drop 39 bracketed_row) others units → BeginsRow 2 (drop 28 bracketed_row) (11 + others) units
+unfolding text_of row_units
+from_class_twice others units later = next_of_row 1 11 others bracketed_class_twice (drop 28 bracketed_row) units refl refl later
+
+from_class : (others : ℕ) (units : List ℕ) → BeginsRow 2 (drop 28 bracketed_row) others units → BeginsRow 3 (drop 19 bracketed_row) (9 + others) units
+unfolding text_of row_units
+from_class others units later = next_of_row 2 9 others bracketed_class (drop 19 bracketed_row) units refl refl later
+
+from_twice : (others : ℕ) (units : List ℕ) → BeginsRow 3 (drop 19 bracketed_row) others units → BeginsRow 4 (drop 11 bracketed_row) (8 + others) units
+unfolding text_of row_units
+from_twice others units later = next_of_row 3 8 others bracketed_twice (drop 11 bracketed_row) units refl refl later
+
+from_first : (others : ℕ) (units : List ℕ) → BeginsRow 4 (drop 11 bracketed_row) others units → BeginsRow 5 (drop 5 bracketed_row) (6 + others) units
+unfolding text_of row_units
+from_first others units later = next_of_row 4 6 others bracketed (drop 5 bracketed_row) units refl refl later
+
+in_bracketed_row : (row_end : ℕ) (units : List ℕ) → BeginsRow 5 (drop 5 bracketed_row) row_end units → StandsAt bracketed_row 0 (5 + row_end) units
+in_bracketed_row row_end units row = record {
+  end = 5 + row_end;
+  begins = inr (record { low = 5; high = 0; rest = drop 5 bracketed_row; split = refl; row_end = row_end; row = row; ends = refl });
+  ends = omega arith;
+}
+
 -- ---- two that overlap
 
 overlapping_name : BeginsName (0 ∷ 0x41 ∷ (letters 65 ++ letters 190)) 67 (letters 65)
@@ -173,7 +213,15 @@ worked = record {
   array = refl;
   brackets_behind = refl;
   brackets_inside = refl;
+  class_open = refl;
+  class_of_no_name = refl;
+  no_class = refl;
+  no_code = refl;
   primitive_array = refl;
+  primitive_arrays = refl;
+  primitive_and_brackets = refl;
+  primitive_inside = refl;
+  class_of_a_letter = refl;
   only_brackets = refl;
   digit = refl;
   two_dots = refl;
@@ -198,6 +246,16 @@ worked = record {
   };
   after_cut = λ to units stands. all_a to units (is_a units) refl stands;
   behind_no_name = row_of_three 0x3B refl refl refl refl;
+  bracketed_alone = named_alone 4 6 bracketed refl refl refl;
+  bracketed_twice_alone = named_alone 6 8 bracketed_twice refl refl refl;
+  bracketed_class_alone = named_alone 7 9 bracketed_class refl refl refl;
+  bracketed_class_twice_alone = named_alone 9 11 bracketed_class_twice refl refl refl;
+  bracketed_in_row = in_bracketed_row 6 a_B (first_of_row 4 bracketed (drop 5 bracketed_row) a_B 6 refl refl refl);
+  bracketed_twice_in_row = in_bracketed_row 14 a_B (from_first 8 a_B (first_of_row 3 bracketed_twice (drop 11 bracketed_row) a_B 8 refl refl refl));
+  bracketed_class_in_row = in_bracketed_row 23 a_B (from_first 17 a_B (from_twice 9 a_B (first_of_row 2 bracketed_class (drop 19 bracketed_row) a_B 9 refl refl refl)));
+  bracketed_class_twice_in_row = in_bracketed_row 34 a_B
+      (from_first 28 a_B (from_twice 20 a_B (from_class 11 a_B (first_of_row 1 bracketed_class_twice (drop 28 bracketed_row) a_B 11 refl refl refl))));
+  behind_bracketed = in_bracketed_row 37 (0x63 ∷ []) (from_first 31 (0x63 ∷ []) (from_twice 23 (0x63 ∷ []) (from_class 14 (0x63 ∷ []) (from_class_twice 3 (0x63 ∷ []) behind_class_twice))));
   after_primitives = row_of_two 0 2 2 0x61 4 (0x5B ∷ 0x49 ∷ []) (0 ∷ 2 ∷ 0x5B ∷ 0x49 ∷ 0 ∷ 1 ∷ 0x61 ∷ []) refl refl refl refl refl refl 0 refl;
   chained_first = record { end = 4; begins = one_name (0 ∷ 1 ∷ 0x72 ∷ 0 ∷ 1 ∷ 0x61 ∷ []) (0x72 ∷ []) 3 (letter_name 0x72 (0 ∷ 1 ∷ 0x61 ∷ []) refl refl); ends = refl };
   chained_second = record { end = 4; begins = one_letter 0x61 refl refl; ends = refl };

@@ -1,6 +1,8 @@
 -- Loadable names, said without a reader: a plain name is segments separated by `.`; a loadable name is a plain name, or what
--- these make of one: `[]` behind it; `[L` before and `;` behind it; one more `[` before one that begins with `[`.
-use Rattle.std.specs.Prelude.{◌≡◌, ℕ, true, List, [], ◌∷◌, ◌++◌, Some}
+-- these make of one: `[]` behind it; `[L` before and `;` behind it; `[` before it, unless it is the letter of a primitive type,
+-- alone or with `[]` behind it: that makes an array of primitives, which names no class.
+use Rattle.std.specs.Prelude.{◌≡◌, ℕ, Bool, true, false, ◌==◌, ◌&&◌, List, [], ◌∷◌, ◌++◌, Some}
+use Rattle.jser_table.specs.Names.{is_primitive_code}
 use Rattle.jser_anywhere.specs.Names.{is_part, core}
 use Rattle.jser_anywhere.specs.LooseText.{IsLooseText, AreInRow}
 
@@ -46,15 +48,25 @@ with_brackets inner = inner ++ 0x5B ∷ 0x5D ∷ []
 abbrev pub with_class : List ℕ → List ℕ
 with_class inner = 0x5B ∷ 0x4C ∷ (inner ++ 0x3B ∷ [])
 
--- units that begin with `[` and some more
 abbrev pub with_bracket : List ℕ → List ℕ
-with_bracket rest = 0x5B ∷ 0x5B ∷ rest
+with_bracket inner = 0x5B ∷ inner
+
+-- `[]`, so often as it is there
+abbrev pub are_brackets : List ℕ → Bool
+are_brackets [] = true
+are_brackets (unit ∷ []) = false
+are_brackets (first ∷ second ∷ units) = first == 0x5B && second == 0x5D && are_brackets units
+
+-- the letter of a primitive type, alone or with `[]` behind it
+abbrev pub is_primitive : List ℕ → Bool
+is_primitive [] = false
+is_primitive (unit ∷ units) = is_primitive_code unit && are_brackets units
 
 abbrev pub IsWrapped : List Wrap → (name units : List ℕ) → Type 0
 IsWrapped [] name units = units ≡ name
 IsWrapped (brackets ∷ wraps) name units = Wraps with_brackets (IsWrapped wraps name) units
 IsWrapped (class ∷ wraps) name units = Wraps with_class (IsWrapped wraps name) units
-IsWrapped (bracket ∷ wraps) name units = Wraps with_bracket (λ rest. IsWrapped wraps name (0x5B ∷ rest)) units
+IsWrapped (bracket ∷ wraps) name units = Wraps with_bracket (λ inner. (is_primitive inner ≡ false) × IsWrapped wraps name inner) units
 
 -- these units name a class: the plain name of it, its core, is inside
 pub record HasCore (units name : List ℕ) : Type 0 where

@@ -1,6 +1,7 @@
--- Loadable names, and the class that one names: its core, which is the plain name that is left where brackets at its end, and
--- the brackets, `L` and `;` of an array, are taken off as often as they are there.
+-- Loadable names, and the class that one names: its core, which is the plain name that is left where `[]` at its end, `[L` and
+-- `;` round it, and `[` before it are taken off as often as they are there.
 use Rattle.std.specs.Prelude.{ℕ, zero, suc, Bool, true, false, ◌==◌, ◌-◌, ◌&&◌, ◌||◌, nat_le, if◌then◌else◌, List, [], ◌∷◌, length, take, get_or, Option, Some, None}
+use Rattle.jser_table.specs.Names.{is_primitive_code}
 use Rattle.jser_anywhere.specs.Texts.{row_units}
 
 -- a letter, a digit, `_`, `$`, `-`, or a unit from 0080 on
@@ -25,15 +26,16 @@ ends_in_brackets units = nat_le 3 (length units) && get_or units (length units -
 abbrev pub ends_in_semicolon : List ℕ → Bool
 ends_in_semicolon units = nat_le 1 (length units) && get_or units (length units - 1) 0 == 0x3B
 
--- without the first of two or more `[`, or without `[L` and `;`
+-- what stands inside behind the first `[`: with no `L` and `;` round it; nothing, where that is the letter of a primitive type
+abbrev pub behind_bracket : List ℕ → Option (List ℕ)
+behind_bracket [] = None
+behind_bracket (first ∷ []) = if is_primitive_code first then None else Some (first ∷ [])
+behind_bracket (first ∷ second ∷ rest) =
+    if first == 0x4C && ends_in_semicolon (second ∷ rest) then Some (take (length rest) (second ∷ rest)) else Some (first ∷ second ∷ rest)
+
 abbrev pub inside : List ℕ → Option (List ℕ)
 inside [] = None
-inside (first ∷ []) = None
-inside (first ∷ second ∷ rest) =
-    if first == 0x5B then
-    (if second == 0x5B then Some (second ∷ rest)
-    else (if second == 0x4C && ends_in_semicolon rest then Some (take (length rest - 1) rest) else None))
-    else None
+inside (first ∷ rest) = if first == 0x5B then behind_bracket rest else None
 
 -- what is left of a name of which something can be taken off
 abbrev pub peeled : List ℕ → Option (List ℕ)

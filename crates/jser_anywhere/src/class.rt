@@ -1,10 +1,13 @@
 //! The class that a loadable name names.
 ghost use Rattle.std.specs.Prelude.{◌≡◌, ◌<◌, ◌≤◌, ◌&&◌, nat_le, IfSome, length, true};
 ghost use Rattle.std.specs.Option.{option_map};
-ghost use Rattle.jser_anywhere.specs.Names.{core, ends_in_brackets, ends_in_semicolon, inside, is_part, is_plain, peeled};
+ghost use Rattle.jser_table.specs.Names.{is_primitive_code};
+ghost use Rattle.jser_anywhere.specs.Names.{behind_bracket, core, ends_in_brackets, ends_in_semicolon, inside, is_part, is_plain, peeled};
 
-/// The class that these units name: what is left where brackets at the end, and the brackets, `L` and `;` of an array, are taken
-/// off as often as they are there. `None` where they name none.
+use jser_table::{BodyKind, LayerKind, layer_kind_of};
+
+/// The class that these units name: what is left where `[]` at the end, `[L` and `;` round it, and `[` before it are taken off as
+/// often as they are there. `None` where they name none.
 #[tactic(auto, using(crate::proofs::CoreLemmas::core_begins, crate::proofs::CoreLemmas::core_peeled, crate::proofs::CoreLemmas::core_named, crate::proofs::CoreLemmas::core_unnamed))]
 pub fn named_class(units: &[u16]) -> Option<&[u16]>
     ensures core { option_map (λ name. name.now) result ≡ core units.now }
@@ -29,22 +32,42 @@ fn peeled(units: &[u16]) -> Option<&[u16]>
     }
 }
 
-/// Without the first of two or more `[`, or without `[L` and `;`.
+/// What stands inside a name that begins with `[`.
 fn inside(units: &[u16]) -> Option<&[u16]>
     ensures is { option_map (λ inner. inner.now) result ≡ inside units.now }
     ensures shorter { IfSome result (λ inner. length inner.now < length units.now) }
 {
     match units {
-        [0x5B, 0x5B, ..] => {
-            let (_, inner) = units.split_at(1);
-            Some(inner)
-        }
-        [0x5B, 0x4C, rest @ ..] if ends_in_semicolon(rest) => {
+        [0x5B, rest @ ..] => behind_bracket(rest),
+        _ => None,
+    }
+}
+
+/// What stands inside, of what is behind the first `[`: with no `L` and `;` round it; nothing, where that is the letter of a primitive
+/// type.
+fn behind_bracket(units: &[u16]) -> Option<&[u16]>
+    ensures is { option_map (λ inner. inner.now) result ≡ behind_bracket units.now }
+    ensures shorter { IfSome result (λ inner. length inner.now ≤ length units.now) }
+{
+    match units {
+        [] => None,
+        [letter] if is_primitive(*letter) => None,
+        [0x4C, rest @ ..] if ends_in_semicolon(rest) => {
             let (inner, _) = rest.split_at(rest.len() - 1);
             Some(inner)
         }
-        _ => None,
+        _ => Some(units),
     }
+}
+
+/// Whether the unit is the letter of a primitive type.
+fn is_primitive(unit: u16) -> bool
+    ensures { result ≡ is_primitive_code unit }
+{
+    matches!(
+        layer_kind_of(&[0x5B, unit]),
+        Some(LayerKind::Array(BodyKind::Prim(_)))
+    )
 }
 
 /// Whether the last units are `[]`, and others stand before them.
