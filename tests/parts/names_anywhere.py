@@ -9,11 +9,13 @@ import sys
 from pathlib import Path
 
 MOST = 9215
-# A plain name, and what can be taken off one: brackets at the end, or the `[`, the `L` and the `;` of an array.
+# A plain name, and what can be taken off one: `[]` at the end; `[L` and `;` round it; `[` before it, but before the letter of a
+# primitive type alone.
 PART = r"[A-Za-z0-9_$\-\u0080-\uffff]"
 PLAIN = re.compile(rf"{PART}+(\.{PART}+)*", re.DOTALL)
 BEHIND = re.compile(r"(.+)\[\]", re.DOTALL)
-ARRAY = re.compile(r"\[+L(.*);", re.DOTALL)
+CLASS = re.compile(r"\[L(.*);", re.DOTALL)
+BEFORE = re.compile(r"\[(?![BCDFIJSZ]\Z)(.+)", re.DOTALL)
 
 
 def units_of(data):
@@ -41,7 +43,7 @@ def units_of(data):
 
 def class_of(text):
     """The class that a text names, or None."""
-    while inner := BEHIND.fullmatch(text) or ARRAY.fullmatch(text):
+    while inner := BEHIND.fullmatch(text) or CLASS.fullmatch(text) or BEFORE.fullmatch(text):
         text = inner[1]
     return text if PLAIN.fullmatch(text) else None
 
