@@ -36,8 +36,9 @@ enum {
 
 /* The flags of a filter. */
 enum {
-    SERIALCHECK_STRICT = 1,  /* refuse a class that no pattern matches */
-    SERIALCHECK_ANYWHERE = 2 /* ask the filter about every class name that can be read at any place of the bytes */
+    SERIALCHECK_STRICT = 1,      /* refuse a class that no pattern matches */
+    SERIALCHECK_ANYWHERE = 2,    /* ask the filter about every class name that can be read at any place of the bytes */
+    SERIALCHECK_NEED_PATTERN = 4 /* a filter without a pattern, which would let each class pass, is a MISUSE: for guards */
 };
 
 /* The reasons of a refusal, numbered from 1: docs/REFUSALS.md explains each. */
@@ -48,11 +49,11 @@ enum {
     X(Truncated) X(HandleSpace) X(HiddenName)
 
 /* The causes of SERIALCHECK_MISUSE, numbered from 1: six of the filter's text, three of the table of modules, one of the flags,
- * three of a line of a filter's file. */
+ * three of a line of a filter's file, one of that file, and one of a filter that needs a pattern. */
 #define SERIALCHECK_CAUSES(X) \
     X(UnknownLimit) X(BadLimit) X(ModuleMissing) X(NameMissing) X(PackageMissing) X(FilterIsNoText) \
     X(BadLine) X(PackageTwice) X(ModulesAreNoText) X(UnknownFlag) \
-    X(ByteOrderMark) X(NumberSign) X(WhiteSpace)
+    X(ByteOrderMark) X(NumberSign) X(WhiteSpace) X(FilterFileIsNoText) X(NoPattern)
 
 /* What a call answers. What the status does not speak of is 0. */
 typedef struct {
@@ -68,7 +69,8 @@ typedef struct {
     uint64_t name_from; /* of NO where the bytes of the class name stand that was refused (ClassRejected, ClassUnmatched), */
     uint64_t name_to;   /* or the place of a hidden name (HiddenName): that of `72` or `7D`, and the end of its text */
     uint64_t whole;    /* of a check (YES, NO, MORE) how many of the bytes that came are whole contents: the length of their longest
-                        * front that the filter admits, or 0; ANYWHERE is not asked. So streams one after another can be cut */
+                        * front that the filter admits, or 0; ANYWHERE is not asked. So streams one after another can be cut.
+                        * Pieces that come after a HiddenName do not count */
 } serialcheck_answer;
 
 /* A filter that was read once. Threads share it: no call that reads it changes it. */

@@ -57,6 +57,17 @@ public final class Caches {
         return new CheckedTranscoder(settings);
     }
 
+    /** What comes of a transcoder under a filter's text, between bars. */
+    private static String made(String text) throws IOException {
+        GuardSettings settings = new GuardSettings();
+        settings.setFilter(text.substring(1, text.length() - 1));
+        try (CheckedTranscoder it = new CheckedTranscoder(settings)) {
+            return "made";
+        } catch (IllegalArgumentException faulty) {
+            return faulty.getMessage();
+        }
+    }
+
     private MemcachedClient client(Transcoder<Object> transcoder) throws IOException {
         return new MemcachedClient(new ConnectionFactoryBuilder().setOpTimeout(20_000).setTranscoder(transcoder).build(), List.of(new InetSocketAddress("127.0.0.1", port)));
     }
@@ -211,6 +222,9 @@ public final class Caches {
                 break;
             case "get-many":
                 getMany(Integer.parseInt(words[1]), Integer.parseInt(words[2]), words[3], words[4], words[5]);
+                break;
+            case "make":
+                System.out.println(made(words[1].replace("NO-BREAK-SPACE", "\u00a0")));
                 break;
             case "time":
                 time(words[1], words[2], Integer.parseInt(words[3]));

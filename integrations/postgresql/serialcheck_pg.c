@@ -9,8 +9,8 @@
 
 PG_MODULE_MAGIC;
 
-/* The most bytes of an answer's line and of a cause's name, as the header has them. */
-enum { LINE = 128, NAME = 32 };
+/* The most bytes of an answer's line, as the header has them. */
+enum { LINE = 128 };
 
 /* The filter of a call site, with the text and the flags that it was made of. It is read once for all rows of a statement. */
 typedef struct {
@@ -45,21 +45,30 @@ static void stop_without_memory(void)
     ereport(ERROR, (errcode(ERRCODE_OUT_OF_MEMORY), errmsg("serialcheck: out of memory")));
 }
 
-/* Tells of a faulty piece of a filter. */
-static void stop_at_piece(const serialcheck_answer *fault)
+/* The line that the program prints of an answer, without its line feed, in this room; its length. */
+static int line_of(const serialcheck_answer *answer, char line[LINE])
 {
-    char name[NAME];
     serialcheck_answer told;
 
-    if (serialcheck_cause_name(fault->reason, (uint8_t *) name, sizeof name, &told) != SERIALCHECK_YES)
+    if (serialcheck_line(answer, (uint8_t *) line, LINE, &told) != SERIALCHECK_YES)
         stop_without_memory();
-    ereport(ERROR, (errcode(ERRCODE_INVALID_PARAMETER_VALUE),
-                    errmsg("serialcheck: filter pattern %llu: %.*s", (unsigned long long) fault->from, (int) told.bytes, name)));
+    return (int) told.bytes - 1;
 }
 
-/* Has the call site keep the filter of this text; a faulty one is an error. */
+/* Tells what is wrong with a filter. */
+static void stop_at_fault(const serialcheck_answer *fault)
+{
+    char line[LINE];
+    int len = line_of(fault, line);
+
+    ereport(ERROR, (errcode(ERRCODE_INVALID_PARAMETER_VALUE), errmsg("serialcheck: %.*s", len, line)));
+}
+
+/* Has the call site keep the filter of this text; a faulty one is an error. A guard reads it as a filter's file, in which more
+ * is a fault, and wants a pattern in it. */
 static void read_filter(Kept *kept, MemoryContext room, const text *filter, uint32_t flags)
 {
+    bool is_guard = flags & SERIALCHECK_NEED_PATTERN;
     const char *words = VARDATA_ANY(filter);
     Size len = VARSIZE_ANY_EXHDR(filter);
     serialcheck_answer answer;
@@ -71,9 +80,10 @@ static void read_filter(Kept *kept, MemoryContext room, const text *filter, uint
         pfree(kept->text);
         kept->text = NULL;
     }
-    status = serialcheck_filter_new((const uint8_t *) words, len, (const uint8_t *) "", 0, flags, &answer, &kept->filter);
+    status = (is_guard ? serialcheck_filter_read : serialcheck_filter_new)((const uint8_t *) words, len, (const uint8_t *) "", 0, flags,
+                                                                           &answer, &kept->filter);
     if (status == SERIALCHECK_MISUSE)
-        stop_at_piece(&answer);
+        stop_at_fault(&answer);
     if (status != SERIALCHECK_YES)
         stop_without_memory();
     kept->text = MemoryContextAlloc(room, len + 1);
@@ -82,13 +92,13 @@ static void read_filter(Kept *kept, MemoryContext room, const text *filter, uint
     kept->flags = flags;
 }
 
-/* The answer for these bytes, under the filter of the other arguments. */
-static serialcheck_answer answer_of(FunctionCallInfo fcinfo, const bytea *data)
+/* The answer for these bytes, under the filter of the other arguments and these flags. */
+static serialcheck_answer answer_of(FunctionCallInfo fcinfo, const bytea *data, uint32_t flags)
 {
     Kept *kept = kept_by(fcinfo->flinfo);
-    uint32_t flags = (PG_GETARG_BOOL(2) ? SERIALCHECK_STRICT : 0) | (PG_GETARG_BOOL(3) ? SERIALCHECK_ANYWHERE : 0);
     serialcheck_answer answer;
 
+    flags |= (PG_GETARG_BOOL(2) ? SERIALCHECK_STRICT : 0) | (PG_GETARG_BOOL(3) ? SERIALCHECK_ANYWHERE : 0);
     read_filter(kept, fcinfo->flinfo->fn_mcxt, PG_GETARG_TEXT_PP(1), flags);
     if (serialcheck_filter_check(&kept->filter, (const uint8_t *) VARDATA_ANY(data), VARSIZE_ANY_EXHDR(data), &answer) == SERIALCHECK_NO_MEMORY)
         stop_without_memory();
@@ -97,10 +107,10 @@ static serialcheck_answer answer_of(FunctionCallInfo fcinfo, const bytea *data)
 
 PG_FUNCTION_INFO_V1(pg_serialcheck);
 
-/* Whether the bytes are one stream that the filter admits. */
+/* Whether the bytes are one stream that the filter admits. It guards a table, so the filter must have a pattern. */
 Datum pg_serialcheck(PG_FUNCTION_ARGS)
 {
-    PG_RETURN_BOOL(answer_of(fcinfo, PG_GETARG_BYTEA_PP(0)).status == SERIALCHECK_YES);
+    PG_RETURN_BOOL(answer_of(fcinfo, PG_GETARG_BYTEA_PP(0), SERIALCHECK_NEED_PATTERN).status == SERIALCHECK_YES);
 }
 
 /* Appends the class name that was refused, quoted, if the answer has one. */
@@ -132,15 +142,12 @@ PG_FUNCTION_INFO_V1(pg_serialcheck_answer);
 Datum pg_serialcheck_answer(PG_FUNCTION_ARGS)
 {
     bytea *data = PG_GETARG_BYTEA_PP(0);
-    serialcheck_answer answer = answer_of(fcinfo, data), told;
-    uint8_t line[LINE];
+    serialcheck_answer answer = answer_of(fcinfo, data, 0);
+    char line[LINE];
     StringInfoData text;
 
-    if (serialcheck_line(&answer, line, sizeof line, &told) != SERIALCHECK_YES)
-        stop_without_memory();
     initStringInfo(&text);
-    /* All of it but the line feed. */
-    appendBinaryStringInfo(&text, (const char *) line, told.bytes - 1);
+    appendBinaryStringInfo(&text, line, line_of(&answer, line));
     append_class(&text, &answer, data);
     PG_RETURN_TEXT_P(cstring_to_text_with_len(text.data, text.len));
 }

@@ -64,7 +64,7 @@ public final class Guards {
 
     private static void tellFaultySettings() throws Exception {
         for (String[] words : new String[][] {
-            {"strict", "yes"}, {"most", "0"}, {"most", "many"}, {"onRefusal", "drop"}, {"filters", "!*"}, {}, {"filter", "!*", "filterFile", "f"}, {"filter", "maxwhat=1"}, {"filter", "!*", "onRefusal", "quarantine"},
+            {"strict", "yes"}, {"most", "0"}, {"most", "many"}, {"onRefusal", "drop"}, {"filters", "!*"}, {}, {"filter", "!*", "filterFile", "f"}, {"filter", "maxwhat=1"}, {"filter", ""}, {"filter", "maxdepth=20"}, {"filter", "!*\u00a0"}, {"filter", "!*", "onRefusal", "quarantine"},
         }) {
             told(() -> guard(words));
         }

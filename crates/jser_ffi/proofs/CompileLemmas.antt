@@ -20,7 +20,7 @@ pub file_compiled : (flags : ℕ) (file text bytes modules : List ℕ) (compiled
 file_compiled flags file text bytes modules compiled of same is =
     record { is_text = of.utf8; lines = of.lines; is = subst (λ t. IsCompiled flags t modules compiled) (same ∙ of.is) is }
 
-pub no_file_text : (flags : ℕ) (file modules : List ℕ) (answer : Answer) → (IsUtf8 file → ⊥) → answer.reason ≡ 6 → SaysFileMisuse flags file modules answer
+pub no_file_text : (flags : ℕ) (file modules : List ℕ) (answer : Answer) → (IsUtf8 file → ⊥) → answer.reason ≡ 14 → SaysFileMisuse flags file modules answer
 unfolding SaysFileMisuse
 no_file_text flags file modules answer none is = inl (inl (record { no_text = none; reason = is }))
 

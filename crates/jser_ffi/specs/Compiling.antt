@@ -1,5 +1,5 @@
 -- What a filter's text, a table of modules and the flags of a call make, and what the answer says where one is faulty.
-use Rattle.std.specs.Prelude.{ℕ, ◌≡◌, ◌≢◌, ◌⊎◌, List, Some, None}
+use Rattle.std.specs.Prelude.{ℕ, ◌≡◌, ◌≢◌, ◌⊎◌, true, false, List, Some, None}
 use Rattle.std.specs.Str.{IsUtf8}
 use Rattle.jser_prim.specs.ModifiedUtf8.{utf16_units}
 use Rattle.jser_filter.specs.declared.FilterCause.{FilterCause}
@@ -18,7 +18,8 @@ use Rattle.jser_settings.specs.FileFaults.{file_fault}
 use Rattle.jser_settings.specs.FilterFiles.{filter_text}
 use Rattle.jser_ffi.specs.declared.answer.Answer.{Answer}
 use Rattle.jser_ffi.specs.declared.compiled.Compiled.{Compiled}
-use Rattle.jser_ffi.specs.Ways.{way_of}
+use Rattle.jser_settings.specs.NoPatterns.{has_pattern}
+use Rattle.jser_ffi.specs.Ways.{needs_pattern, way_of}
 
 -- ---- what is made
 
@@ -35,7 +36,8 @@ pub record IsTableOf (text : List ℕ) (table : ModuleTable) : Type 0 where
   pub sound : AreSoundLines (lines_of (utf16_units text))
 
 pub record IsCompiled (flags : ℕ) (text modules : List ℕ) (compiled : Compiled) : Type 0 where
-  pub way : way_of flags ≡ Some (record { options = compiled.applied.options; anywhere = compiled.anywhere })
+  pub way : way_of flags ≡ Some (record { options = compiled.applied.options; anywhere = compiled.anywhere; needs_pattern = needs_pattern flags })
+  pub has : needs_pattern flags ≡ true → has_pattern text ≡ true
   pub filter : IsFilterOf text compiled.applied.filter.pieces
   pub table : IsTableOf modules compiled.applied.filter.modules
 
@@ -45,8 +47,8 @@ pub record IsCompiledFile (flags : ℕ) (file modules : List ℕ) (compiled : Co
   pub lines : file_fault file ≡ None
   pub is : IsCompiled flags (filter_text file) modules compiled
 
--- ---- the causes of a misuse: 1 to 6 of the filter's text, 7 to 9 of the table of modules, 10 of the flags, 11 to 13 of a
--- filter's file
+-- ---- the causes of a misuse: 1 to 6 of the filter's text, 7 to 9 of the table of modules, 10 of the flags, 11 to 14 of a
+-- filter's file, 15 of a filter that wants a pattern
 
 abbrev pub filter_cause_number : FilterCause → ℕ
 filter_cause_number cause.UnknownLimit = 1
@@ -100,8 +102,14 @@ FlagsAreUnknown flags answer = (way_of flags ≡ None) × (answer.reason ≡ 10)
 abbrev pub TextsAreFaulty : (text modules : List ℕ) → Answer → Type 0
 TextsAreFaulty text modules answer = TextIsFaulty text answer ⊎ ModulesAreFaulty modules answer
 
+-- the filter must have a pattern, and has none
+pub record LacksPattern (flags : ℕ) (text : List ℕ) (answer : Answer) : Type 0 where
+  pub needs : needs_pattern flags ≡ true
+  pub none : has_pattern text ≡ false
+  pub reason : answer.reason ≡ 15
+
 abbrev pub SaysMisuse : (flags : ℕ) → (text modules : List ℕ) → Answer → Type 0
-SaysMisuse flags text modules answer = FlagsAreUnknown flags answer ⊎ TextsAreFaulty text modules answer
+SaysMisuse flags text modules answer = FlagsAreUnknown flags answer ⊎ (LacksPattern flags text answer ⊎ TextsAreFaulty text modules answer)
 
 -- the first faulty line of a filter's file, with its cause
 pub record FileIsFaulty (file : List ℕ) (answer : Answer) : Type 0 where
@@ -112,4 +120,4 @@ pub record FileIsFaulty (file : List ℕ) (answer : Answer) : Type 0 where
 
 -- the file is no text, or a line of it is faulty, or else what is wrong with the text of its lines, the table or the flags
 unfoldable pub SaysFileMisuse : (flags : ℕ) → (file modules : List ℕ) → Answer → Type 0
-SaysFileMisuse flags file modules answer = (IsNoText 6 file answer ⊎ FileIsFaulty file answer) ⊎ SaysMisuse flags (filter_text file) modules answer
+SaysFileMisuse flags file modules answer = (IsNoText 14 file answer ⊎ FileIsFaulty file answer) ⊎ SaysMisuse flags (filter_text file) modules answer

@@ -78,7 +78,9 @@ cause_at n =
     (if n == 10 then Some (codes "UnknownFlag") else
     (if n == 11 then Some (file_cause_text slip.ByteOrderMark) else
     (if n == 12 then Some (file_cause_text slip.NumberSign) else
-    (if n == 13 then Some (file_cause_text slip.WhiteSpace) else None))))))))))))
+    (if n == 13 then Some (file_cause_text slip.WhiteSpace) else
+    (if n == 14 then Some (codes "FilterFileIsNoText") else
+    (if n == 15 then Some (codes "NoPattern") else None))))))))))))))
 
 -- ---- the line that the program prints of an answer
 
@@ -110,7 +112,9 @@ misuse_line_of answer =
     (if answer.reason == 10 then Some (codes "unknown flag\n") else
     (if answer.reason == 11 then Some (file_line answer.from_byte slip.ByteOrderMark) else
     (if answer.reason == 12 then Some (file_line answer.from_byte slip.NumberSign) else
-    (if answer.reason == 13 then Some (file_line answer.from_byte slip.WhiteSpace) else None))))))))))))
+    (if answer.reason == 13 then Some (file_line answer.from_byte slip.WhiteSpace) else
+    (if answer.reason == 14 then Some (codes "filter file is not text\n") else
+    (if answer.reason == 15 then Some (codes "filter has no pattern\n") else None))))))))))))))
 
 abbrev pub line_of : Answer → Option (List ℕ)
 line_of answer =

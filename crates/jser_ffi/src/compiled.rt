@@ -5,15 +5,15 @@ ghost use Rattle.jser_ffi.specs.Told.{HasEnd, HasFault, HasWhole, Says, SaysAnyw
 
 use crate::answer::{Answer, NO_MEMORY, SPENT, accepted, bare, hidden, misuse, refused};
 use crate::misuse::{
-    FILTER_IS_NO_TEXT, MODULES_ARE_NO_TEXT, UNKNOWN_FLAG, file_answer, filter_answer,
-    modules_answer,
+    FILE_IS_NO_TEXT, FILTER_IS_NO_TEXT, MODULES_ARE_NO_TEXT, NO_PATTERN, UNKNOWN_FLAG, file_answer,
+    filter_answer, modules_answer,
 };
 use crate::pieces::stopped;
 use crate::way::way_of;
 use jser_check::{FilterGate, Holds, Options, Report, Stop, judge_bytes};
 use jser_check_anywhere::{AnywhereChecker, AnywhereFault};
 use jser_filter::{Filter, Modules};
-use jser_settings::{FileTextFault, filter_text_of};
+use jser_settings::{FileTextFault, filter_text_of, has_pattern};
 use jser_shared::SharedFilter;
 use std::alloc::{AllocError, Global};
 use std::str;
@@ -47,6 +47,9 @@ pub(crate) fn compile(
     let Some(way) = way_of(flags) else {
         return Err(misuse(UNKNOWN_FLAG, 0));
     };
+    if way.needs_pattern && !has_pattern(text) {
+        return Err(misuse(NO_PATTERN, 0));
+    }
     let filter = match filter_with(alloc, text, modules) {
         Ok(filter) => filter,
         Err(answer) => return Err(answer),
@@ -83,7 +86,7 @@ pub(crate) fn compile_file(
             Ok(compiled) => Ok(compiled),
             Err(answer) => Err(answer),
         },
-        Err(FileTextFault::NoText) => Err(misuse(FILTER_IS_NO_TEXT, 0)),
+        Err(FileTextFault::NoText) => Err(misuse(FILE_IS_NO_TEXT, 0)),
         Err(FileTextFault::Faulty(fault)) => Err(file_answer(fault)),
         Err(FileTextFault::OutOfMemory) => Err(bare(NO_MEMORY)),
     }

@@ -108,7 +108,7 @@ pub extern "C" fn serialcheck_filter_new(
     ensures bare { result ≢ 2 → answer.new ≡ bare_answer result }
 {
     *answer = match compile(alloc, text, modules, flags) {
-        Ok(compiled) => filter.fill(alloc, compiled),
+        Ok(made) => filter.fill(alloc, made),
         Err(answer) => answer,
     };
     answer.status

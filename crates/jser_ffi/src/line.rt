@@ -90,6 +90,8 @@ fn line_of_misuse(alloc: Global, answer: &Answer) -> Result<Option<String>, Allo
         11 => Ok(Some(line_of_file(alloc, place, FileCause::ByteOrderMark)?)),
         12 => Ok(Some(line_of_file(alloc, place, FileCause::NumberSign)?)),
         13 => Ok(Some(line_of_file(alloc, place, FileCause::WhiteSpace)?)),
+        14 => Ok(Some(said(alloc, "filter file is not text\n")?)),
+        15 => Ok(Some(said(alloc, "filter has no pattern\n")?)),
         _ => Ok(None),
     }
 }

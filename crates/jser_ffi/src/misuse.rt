@@ -13,6 +13,10 @@ use jser_settings::{FileCause, FileFault};
 pub(crate) const FILTER_IS_NO_TEXT: u32 = 6;
 /// The cause that the bytes of a table of modules are no text.
 pub(crate) const MODULES_ARE_NO_TEXT: u32 = 9;
+/// The cause that the bytes of a filter's file are no text.
+pub(crate) const FILE_IS_NO_TEXT: u32 = 14;
+/// The cause that a filter has no pattern, where one is wanted.
+pub(crate) const NO_PATTERN: u32 = 15;
 /// The cause that a flag is set that there is not.
 pub(crate) const UNKNOWN_FLAG: u32 = 10;
 

@@ -84,6 +84,8 @@ pub(crate) fn name_of_cause(number: u32) -> Option<&'static str>
         11 => Some("ByteOrderMark"),
         12 => Some("NumberSign"),
         13 => Some("WhiteSpace"),
+        14 => Some("FilterFileIsNoText"),
+        15 => Some("NoPattern"),
         _ => None,
     }
 }

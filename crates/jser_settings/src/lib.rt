@@ -19,7 +19,7 @@ mod whole;
 pub use file_fault::{FileCause, FileFault};
 pub use file_text::{FileTextFault, filter_text_of};
 pub use limit::limit_of;
-pub use no_pattern::{note_modules, note_patterns, note_text};
+pub use no_pattern::{has_pattern, note_modules, note_patterns, note_text};
 pub use settings::{filter_in, filter_of, filter_text_in, modules_of};
 pub use status::{
     ACCEPTED, CUT, FAILED, MISUSED, REFUSED, tell_failure, tell_input_fault, tell_misuse,

@@ -67,8 +67,8 @@ pub fn note_modules<E: Sink>(table: &Modules, faults: &mut E)
     }
 }
 
-/// Whether a text has a piece that is a pattern.
-fn has_pattern(text: &[u8]) -> bool
+/// Whether a filter's text has a pattern: a piece that is not empty and has no `=`. One without a pattern refuses no class.
+pub fn has_pattern(text: &[u8]) -> bool
     ensures { result ≡ has_pattern text.now }
 {
     let mut before = PieceSoFar::Empty;

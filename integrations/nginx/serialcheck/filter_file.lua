@@ -17,16 +17,4 @@ function filter_file.bytes(path)
     return bytes or ""
 end
 
--- Whether the bytes of a file that is not faulty have a pattern: a piece that is no limit.
-function filter_file.has_pattern(bytes)
-    for line in bytes:gmatch("[^\n]+") do
-        for piece in line:gsub("^#.*", ""):gmatch("[^;\r]+") do
-            if not piece:find("=", 1, true) then
-                return true
-            end
-        end
-    end
-    return false
-end
-
 return filter_file

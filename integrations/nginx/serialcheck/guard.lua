@@ -26,19 +26,9 @@ function Guard:take(filter, fault)
     return filter ~= nil, fault
 end
 
--- The filter of a text.
-function Guard:filter_of(text)
-    return self.library:filter(text, self.settings.strict, self.settings.anywhere)
-end
-
--- The filter of the bytes of a file. A file without a pattern is faulty here: it lets each class pass, and a file that is being
--- written may have none yet.
-function Guard:filter_of_file(bytes)
-    local filter, fault = self.library:filter_of_file(bytes, self.settings.strict, self.settings.anywhere)
-    if filter and not filter_file.has_pattern(bytes) then
-        return nil, "filter file has no pattern"
-    end
-    return filter, fault
+-- The filter of the bytes of a file, or of a text, which is read as a file is.
+function Guard:filter_of(bytes)
+    return self.library:filter(bytes, self.settings.strict, self.settings.anywhere)
 end
 
 -- Takes the filter of the file, where it is not as it was seen last: whether it did, and what is wrong.
@@ -50,7 +40,7 @@ function Guard:take_file()
     end
     self.seen = seen
     if bytes then
-        return self:take(self:filter_of_file(bytes))
+        return self:take(self:filter_of(bytes))
     end
     return false, fault
 end

@@ -5,8 +5,6 @@ ffi.cdef [[
 typedef struct { uint32_t status, reason; uint64_t from, to, bytes, contents, refs, depth, handles, name_from, name_to, whole; } serialcheck_answer;
 typedef struct { void *at; bool is_open; } serialcheck_filter;
 typedef struct { void *at; bool is_open; } serialcheck_stream;
-uint32_t serialcheck_filter_new(const uint8_t *text, size_t len, const uint8_t *modules, size_t modules_len, uint32_t flags,
-                                serialcheck_answer *answer, serialcheck_filter *filter);
 uint32_t serialcheck_filter_read(const uint8_t *file, size_t len, const uint8_t *modules, size_t modules_len, uint32_t flags,
                                  serialcheck_answer *answer, serialcheck_filter *filter);
 void serialcheck_filter_free(serialcheck_filter *filter);
@@ -20,7 +18,7 @@ uint32_t serialcheck_class(const uint8_t *bytes, size_t len, const serialcheck_a
 uint32_t serialcheck_reason_name(uint32_t reason, uint8_t *room, size_t room_len, serialcheck_answer *told);
 ]]
 local YES, NO, NO_MEMORY, MORE, SMALL = 0, 1, 3, 4, 6
-local STRICT, ANYWHERE = 1, 2
+local STRICT, ANYWHERE, NEED_PATTERN = 1, 2, 4
 -- As many bytes as are taken of a text: a line and a name of a reason have fewer, a class name may have more.
 local MOST_TEXT = 200
 
@@ -55,24 +53,15 @@ function Library:line(answer)
     return line and line:gsub("\n$", "") or "no answer"
 end
 
--- The filter that a call reads of bytes; nil and the program's line where they are faulty.
-local function filter_by(read, library, bytes, is_strict, is_anywhere)
-    local flags = (is_strict and STRICT or 0) + (is_anywhere and ANYWHERE or 0)
-    local answer, handle = new_answer(), ffi.gc(ffi.new("serialcheck_filter"), library.calls.serialcheck_filter_free)
-    if read(bytes, #bytes, nil, 0, flags, answer, handle) ~= YES then
-        return nil, library:line(answer)
+-- The filter of the bytes of a filter's file; nil and the program's line where they are faulty. One without a pattern is: it lets
+-- each class pass, and a file that is being written may have none yet.
+function Library:filter(bytes, is_strict, is_anywhere)
+    local flags = NEED_PATTERN + (is_strict and STRICT or 0) + (is_anywhere and ANYWHERE or 0)
+    local answer, handle = new_answer(), ffi.gc(ffi.new("serialcheck_filter"), self.calls.serialcheck_filter_free)
+    if self.calls.serialcheck_filter_read(bytes, #bytes, nil, 0, flags, answer, handle) ~= YES then
+        return nil, self:line(answer)
     end
-    return setmetatable({ library = library, handle = handle }, Filter)
-end
-
--- The filter of a text.
-function Library:filter(text, is_strict, is_anywhere)
-    return filter_by(self.calls.serialcheck_filter_new, self, text, is_strict, is_anywhere)
-end
-
--- The filter of the bytes of a filter's file.
-function Library:filter_of_file(bytes, is_strict, is_anywhere)
-    return filter_by(self.calls.serialcheck_filter_read, self, bytes, is_strict, is_anywhere)
+    return setmetatable({ library = self, handle = handle }, Filter)
 end
 
 -- The check of one stream that comes in pieces. Where there is no memory for it, its first call says so.

@@ -282,7 +282,8 @@ public final class Filter implements AutoCloseable {
     }
 
     /** The bytes of a text. One with an unpaired surrogate has none, and is not made another text by a `?` in its place. */
-    private static byte[] spelled(String text, String fault) {
+    /** A text in UTF-8; one with half of a surrogate pair is faulty. */
+    static byte[] spelled(String text, String fault) {
         try {
             ByteBuffer bytes = StandardCharsets.UTF_8.newEncoder().encode(CharBuffer.wrap(Objects.requireNonNull(text, "no text")));
             return Arrays.copyOf(bytes.array(), bytes.limit());

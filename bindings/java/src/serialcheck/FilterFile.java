@@ -2,10 +2,8 @@ package serialcheck;
 
 import java.io.IOException;
 import java.io.InputStream;
-import java.nio.charset.StandardCharsets;
 import java.nio.file.Files;
 import java.nio.file.Path;
-import java.util.Arrays;
 
 /** The bytes of a filter's file. What its lines mean the native library knows (docs/FILTERS.md). */
 final class FilterFile {
@@ -23,11 +21,5 @@ final class FilterFile {
             }
             return bytes;
         }
-    }
-
-    /** Whether a file that is not faulty has a pattern: a piece that is no limit. */
-    static boolean hasPattern(byte[] bytes) {
-        return Arrays.stream(new String(bytes, StandardCharsets.ISO_8859_1).split("\n")).filter(line -> !line.startsWith("#"))
-            .flatMap(line -> Arrays.stream(line.split("[;\r]"))).anyMatch(piece -> !piece.isEmpty() && !piece.contains("="));
     }
 }

@@ -39,7 +39,7 @@ final class GuardFilter {
             throw new IllegalArgumentException("a guard needs a filter or a filterFile, and not both");
         }
         read = seen = file == null ? null : stamp();
-        filter = file == null ? new Filter(settings.filter(), flags) : readFile();
+        filter = file == null ? Filter.ofFile(Filter.spelled(settings.filter(), "filter is not text"), flags) : readFile();
         looked = System.nanoTime();
     }
 
@@ -93,13 +93,7 @@ final class GuardFilter {
     }
 
     private Filter readFile() throws IOException {
-        byte[] bytes = FilterFile.read(file);
-        Filter made = Filter.ofFile(bytes, flags);
-        if (!FilterFile.hasPattern(bytes)) {
-            made.close();
-            throw new IllegalArgumentException("the filter file has no pattern"); // which would admit all classes
-        }
-        return made;
+        return Filter.ofFile(FilterFile.read(file), flags);
     }
 
     /** Whether the file was last written to a second ago, or earlier. */

@@ -1,7 +1,9 @@
 package serialcheck;
 
 import java.nio.file.Path;
+import java.util.EnumSet;
 import java.util.Locale;
+import java.util.Set;
 
 /**
  * The settings of a {@link Guard}, by the names that all integrations give them: each has a setter, for frameworks that fill in
@@ -32,9 +34,10 @@ public final class GuardSettings {
     }
 
     /**
-     * Sets the filter's text. A guard needs this or a file.
+     * Sets the filter's text. A guard needs this or a file, and a pattern in it.
      *
-     * @param text as {@code ObjectInputFilter.Config.createFilter} takes it (docs/FILTERS.md)
+     * @param text as {@code ObjectInputFilter.Config.createFilter} takes it, read as a filter's file is (docs/FILTERS.md): a blank or
+     *     an unseen character at an end of a piece is a fault
      */
     public void setFilter(String text) {
         filter = text;
@@ -165,10 +168,14 @@ public final class GuardSettings {
     }
 
     Flag[] flags() {
+        Set<Flag> flags = EnumSet.of(Flag.NEED_PATTERN);
         if (strict) {
-            return anywhere ? new Flag[] {Flag.STRICT, Flag.ANYWHERE} : new Flag[] {Flag.STRICT};
+            flags.add(Flag.STRICT);
         }
-        return anywhere ? new Flag[] {Flag.ANYWHERE} : new Flag[] {};
+        if (anywhere) {
+            flags.add(Flag.ANYWHERE);
+        }
+        return flags.toArray(new Flag[0]);
     }
 
     int most() {
