@@ -10,7 +10,7 @@ use Rattle.jser_line.specs.declared.line.Line.{Line}
 use Rattle.jser_line.specs.declared.line.Line.TheVariants as line
 use Rattle.jser_line.specs.declared.line.LineFault.{LineFault}
 use Rattle.jser_line.specs.declared.line.LineFault.TheVariants as fault
-use Rattle.jser_line.specs.Args.{FilterWords, all_rule, anywhere_rule, carve_rule, field_rule, file_rule, files_rule, filters_asked, filters_in, forms_in, frames_rule, is_true, json_rule, limit_rule, most_rule, pass_rule, paths_rule, progress_rule, refused_rule, sized_rule, slack_rule, text_in, text_rule, texts_in, values_rule, with_filter_rules, with_form_rules, with_strict_filter_rules, zero_rule}
+use Rattle.jser_line.specs.Args.{FilterWords, all_rule, anywhere_rule, carve_rule, copy_rule, field_rule, file_rule, files_rule, filters_asked, filters_in, forms_in, frames_rule, is_true, json_rule, limit_rule, most_rule, pass_rule, paths_rule, progress_rule, refused_rule, sized_rule, slack_rule, text_in, text_rule, texts_in, values_rule, with_filter_rules, with_form_rules, with_strict_filter_rules, zero_rule}
 
 -- [--filter T | --filter-file F] [--modules M] [--strict] [--hex | --base64 | --base64url] [--anywhere] FILE
 abbrev pub with_check_rules : App → App
@@ -44,11 +44,11 @@ suggest_app = with_rule (with_rule (with_form_rules (new_app (codes "suggest")))
 abbrev pub explain_app : App
 explain_app = with_check_rules (new_app (codes "explain"))
 
--- [--frames] [--sized] [--zero]
+-- [--frames] [--sized] [--zero] [--copy]
 abbrev pub with_shape_rules : App → App
-with_shape_rules app = with_rule (with_rule (with_rule app frames_rule) sized_rule) zero_rule
+with_shape_rules app = with_rule (with_rule (with_rule (with_rule app frames_rule) sized_rule) zero_rule) copy_rule
 
--- [--frames] [--sized] [--zero] [--field N] [--most N]
+-- [--frames] [--sized] [--zero] [--copy] [--field N] [--most N]
 abbrev pub with_layout_rules : App → App
 with_layout_rules app = with_rule (with_rule (with_shape_rules app) field_rule) most_rule
 
@@ -57,7 +57,7 @@ abbrev pub with_more_rules : App → App
 with_more_rules app = with_rule (with_answer_rules (with_layout_rules app)) pass_rule
 
 -- serialcheck records [--filter T | --filter-file F] [--modules M] [--strict] [--hex | --base64 | --base64url | --frames | --sized]
--- [--zero] [--field N] [--most N] [--anywhere] [--refused] [--json] [--progress] [--pass] FILE
+-- [--zero] [--copy] [--field N] [--most N] [--anywhere] [--refused] [--json] [--progress] [--pass] FILE
 abbrev pub records_app : App
 records_app = with_rule (with_more_rules (with_form_rules (with_strict_filter_rules (new_app (codes "records"))))) file_rule
 
@@ -94,6 +94,7 @@ pub record RecordsAsked : Type 0 where
   pub frames : Bool
   pub sized : Bool
   pub zero : Bool
+  pub copy : Bool
   pub field : Option Text
   pub most : Option Text
   pub anywhere : Bool
@@ -157,6 +158,7 @@ records_in rows = records (record {
   frames = is_true (first_of (codes "frames") rows);
   sized = is_true (first_of (codes "sized") rows);
   zero = is_true (first_of (codes "zero") rows);
+  copy = is_true (first_of (codes "copy") rows);
   field = first_of (codes "field") rows;
   most = first_of (codes "most") rows;
   anywhere = is_true (first_of (codes "anywhere") rows);
@@ -205,6 +207,7 @@ records_asked words = record {
   frames = words.frames;
   sized = words.sized;
   zero = words.zero;
+  copy = words.copy;
   field = option_map string_bytes words.field;
   most = option_map string_bytes words.most;
   anywhere = words.anywhere;

@@ -71,6 +71,9 @@ sized_rule = flag_rule (codes "sized")
 abbrev pub zero_rule : Rule
 zero_rule = flag_rule (codes "zero")
 
+abbrev pub copy_rule : Rule
+copy_rule = flag_rule (codes "copy")
+
 abbrev pub field_rule : Rule
 field_rule = option_rule (codes "field")
 

@@ -26,12 +26,14 @@ clash_of filters forms = if is_some filters.text && is_some filters.file then So
 abbrev pub is_named : Forms → Bool
 is_named forms = forms.hex || (forms.base64 || forms.base64url)
 
--- records are lines of one form, frames, or sized; NUL and fields are of lines
+-- records are lines of one form, frames, or sized; NUL and fields are of lines, and `\n` of two characters is of base64 that no program reads on
 abbrev pub clash_of_layout : RecordsAsked → Option Clash
 clash_of_layout asked =
     if asked.frames && (asked.sized || is_named asked.forms) then Some clash.FramesAndForm
     else if asked.sized && is_named asked.forms then Some clash.SizedAndForm
     else if (asked.frames || asked.sized) && (asked.zero || is_some asked.field) then Some clash.LinesAlone
+    else if asked.copy && (asked.frames || (asked.sized || asked.forms.hex)) then Some clash.Base64Alone
+    else if asked.copy && asked.pass then Some clash.CopyAndPass
     else None
 
 -- a command whose input has no other form

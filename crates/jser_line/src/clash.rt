@@ -27,6 +27,10 @@ pub enum Clash {
     SizedAndForm,
     /// `--frames` or `--sized`, and `--zero` or `--field`, which are of lines.
     LinesAlone,
+    /// `--copy`, and a form that is not base64.
+    Base64Alone,
+    /// `--copy` and `--pass`.
+    CopyAndPass,
 }
 
 impl Forms {
@@ -114,6 +118,10 @@ fn clash_of_layout(records: &Records) -> Option<Clash>
         Some(Clash::SizedAndForm)
     } else if (records.frames || records.sized) && (records.zero || records.field.is_some()) {
         Some(Clash::LinesAlone)
+    } else if records.copy && (records.frames || records.sized || records.forms.hex) {
+        Some(Clash::Base64Alone)
+    } else if records.copy && records.pass {
+        Some(Clash::CopyAndPass)
     } else {
         None
     }

@@ -1,9 +1,9 @@
 //! `serialcheck records [--filter T | --filter-file F] [--modules M] [--strict] [--hex | --base64 | --base64url | --frames | --sized]
-//! [--zero] [--field N] [--most N] [--anywhere] [--refused] [--json] [--progress] [--pass] FILE`
+//! [--zero] [--copy] [--field N] [--most N] [--anywhere] [--refused] [--json] [--progress] [--pass] FILE`
 ghost use Rattle.std.specs.Prelude.{◌≡◌, IfOk, false};
 ghost use Rattle.clap.specs.Words.{app_of, rule_of, rows_of, found_of};
 ghost use Rattle.clap.specs.declared.Command.{out-Command};
-ghost use Rattle.jser_line.specs.Args.{field_rule, frames_rule, most_rule, pass_rule, sized_rule, zero_rule};
+ghost use Rattle.jser_line.specs.Args.{copy_rule, field_rule, frames_rule, most_rule, pass_rule, sized_rule, zero_rule};
 ghost use Rattle.jser_line.specs.App.{records_app, records_in, line_asks, with_layout_rules, with_more_rules, with_shape_rules};
 
 use crate::args::{
@@ -30,6 +30,8 @@ pub struct Records {
     pub sized: bool,
     /// Whether a NUL ends a line.
     pub zero: bool,
+    /// Whether `\n` of two characters is passed over.
+    pub copy: bool,
     /// Which field is the value, if that is said.
     pub field: Option<String>,
     /// How many bytes of a record are read at most, if that is said.
@@ -94,7 +96,7 @@ fn with_layout<'a>(alloc: Global, command: Command<'a>) -> Result<Command<'a>, A
     field.arg(most_arg(alloc))
 }
 
-/// The command, with the arguments that say where a record ends.
+/// The command, with the arguments that say where a record ends, and how its value is written.
 fn with_shapes<'a>(alloc: Global, command: Command<'a>) -> Result<Command<'a>, AllocError>
     requires local { (out-Command command).has_globals ≡ false }
     ensures app { IfOk result (λ more. app_of more ≡ with_shape_rules (app_of command.entry)) }
@@ -102,7 +104,8 @@ fn with_shapes<'a>(alloc: Global, command: Command<'a>) -> Result<Command<'a>, A
 {
     let framed = command.arg(frames_arg(alloc))?;
     let sized = framed.arg(sized_arg(alloc))?;
-    sized.arg(zero_arg(alloc))
+    let ended = sized.arg(zero_arg(alloc))?;
+    ended.arg(copy_arg(alloc))
 }
 
 /// Whether a record is its length in 4 bytes, and its bytes.
@@ -138,6 +141,17 @@ fn zero_arg<'a>(alloc: Global) -> Arg<'a>
         .long("zero")
         .action(ArgAction::SetTrue)
         .help("A NUL ends a line, in place of a line feed")
+}
+
+/// Whether `\n` of two characters is passed over.
+fn copy_arg<'a>(alloc: Global) -> Arg<'a>
+    ensures rule { rule_of result ≡ copy_rule }
+    ensures local { result.global ≡ false }
+{
+    Arg::new(alloc, "copy")
+        .long("copy")
+        .action(ArgAction::SetTrue)
+        .help("In base64 the characters '\\n' are passed over: psql's \\copy writes the lines of encode(.., 'base64') so")
 }
 
 /// Which field is the value.
@@ -188,6 +202,7 @@ pub(crate) fn records_line(alloc: Global, matches: &ArgMatches<'_>) -> Result<Li
         frames: is_set(matches, "frames"),
         sized: is_set(matches, "sized"),
         zero: is_set(matches, "zero"),
+        copy: is_set(matches, "copy"),
         field,
         most,
         anywhere: is_set(matches, "anywhere"),

@@ -16,7 +16,7 @@ use Rattle.jser_records.specs.Arriving.{Arriving, IsOver, Took, ahead}
 use Rattle.jser_records.specs.Held.{Holds, HoldsMore, HoldsSame, Terms, may_pass}
 use Rattle.jser_records.specs.Frames.{Begun, IsBehind, IsFrame, Takes, TakesOn, TakesSome, TakesValue, null_length}
 use Rattle.jser_records.specs.Keys.{HasNoKey, KeepsKey}
-use Rattle.jser_records.specs.Readings.{Came, Counts, HasLost, HasPlain, HasRead, IsFor, IsOfBytes, Value, none, plain, text_of, cut_at, unknown}
+use Rattle.jser_records.specs.Readings.{Came, Counts, HasLost, HasPlain, HasRead, IsFor, IsOfBytes, Value, none, plain, text_of, cut_at, unknown, parted, failed}
 use Rattle.jser_records.specs.Records.{RecordsGo}
 use Rattle.jser_records.specs.Sized.{at_line}
 use Rattle.jser_records.specs.Told.{Closes, Entry, Quiet, ended}
@@ -186,6 +186,8 @@ frame_of count (plain value) bytes rest now is over =
     (ap (λ n. big_bytes 4 n ++ bytes) (sym size) ∙ ap (λ xs. big_bytes 4 (length value) ++ xs) (sym is.1), omega (arith, size, few))
 frame_of count (text_of form mark text) bytes rest now is over = absurd is
 frame_of count unknown bytes rest now is over = absurd is
+frame_of count parted bytes rest now is over = absurd is
+frame_of count failed bytes rest now is over = absurd is
 frame_of count (cut_at at total) bytes rest now (few, size, fewer, all, stops) over =
     (inr (record { bytes = bytes; split = ap (λ n. big_bytes 4 n ++ bytes) (sym all); size = size; fewer = subst (λ n. at < n) (sym all) fewer; no_null = subst (λ n. n < null_length) (sym all) few }), over stops)
 

@@ -4,9 +4,9 @@ use Rattle.std.proofs.lemmas.Bool.{cases_eq, cases_lt, eq-eqb, ne_eqb}
 use Rattle.std.proofs.lemmas.List.{drop_more, same_from_push, take-append-drop, take-append-le, take_all, take_at}
 use Rattle.std.proofs.lemmas.List.Elements.{All-cons}
 use Rattle.jser_inputs.specs.declared.Form.{Form}
-use Rattle.jser_inputs.specs.declared.Form.TheVariants as form
 use Rattle.jser_records.specs.declared.key.Key.{Key}
 use Rattle.jser_records.specs.declared.layout.Lines.{Lines}
+use Rattle.jser_records.specs.declared.layout.Spelling.{Spelling}
 use Rattle.jser_records.specs.declared.lines.Stretch.{Stretch}
 use Rattle.jser_records.specs.declared.lines.Stretch.TheVariants as stretch
 use Rattle.jser_records.specs.declared.reading.Reading.{Reading}
@@ -105,8 +105,8 @@ late_beside before behind first key (inr more) less long lost =
     let all = length-append more.0 behind in
     record { named = Some (more.0 ++ behind); is_key = inl (more.0, more.1, refl); kept = inr (lost, omega (arith, all, size, less, long)) }
 
-late_there : (form : Form) (number : ℕ) (line : List ℕ) (r : Reading) (x : IsLate (Some number) line r) → Cut (number - 1) line → IsNamed form (Some number) line r
-late_there form number line r x cut =
+late_there : (written : Spelling) (number : ℕ) (line : List ℕ) (r : Reading) (x : IsLate (Some number) line r) → Cut (number - 1) line → IsNamed written (Some number) line r
+late_there written number line r x cut =
     let f = first_of cut.rest in
     let missing = x.missing in
     let tabs = cut.tabs in
@@ -131,28 +131,28 @@ late_there form number line r x cut =
       stopped = λ lost. x.stopped;
     }
 
-late_named : (form : Form) (number : ℕ) (line : List ℕ) (r : Reading) → IsLate (Some number) line r → IsNamed form (Some number) line r
-late_named form number line r x = elim (cases_lt (tabs_in line) (number - 1)) [
+late_named : (written : Spelling) (number : ℕ) (line : List ℕ) (r : Reading) → IsLate (Some number) line r → IsNamed written (Some number) line r
+late_named written number line r x = elim (cases_lt (tabs_in line) (number - 1)) [
   | inl less ↦
       let size : length line ≡ length x.first + length x.rest = ap length x.split ∙ length-append x.first x.rest in
       let all = if_size line in
       let long = x.long in
       record { field = []; named = key_if line; is_value = inr (less, refl, refl); kept = inr (x.lost, omega (arith, all, size, long)); came = λ counted. inr x.stopped; stopped = λ lost. x.stopped }
-  | inr more ↦ late_there form number line r x (cut_at line (number - 1) more)
+  | inr more ↦ late_there written number line r x (cut_at line (number - 1) more)
 ]
 
-in_named : (form : Form) (asked : Option ℕ) (line behind : List ℕ) (r : Reading) → IsIn form asked line behind r → IsNamed form asked line r
-in_named form asked line behind r x = record { field = x.field; named = x.named; is_value = inl (x.before, behind, x.there); kept = x.kept; came = x.came; stopped = x.stopped }
+in_named : (written : Spelling) (asked : Option ℕ) (line behind : List ℕ) (r : Reading) → IsIn written asked line behind r → IsNamed written asked line r
+in_named written asked line behind r x = record { field = x.field; named = x.named; is_value = inl (x.before, behind, x.there); kept = x.kept; came = x.came; stopped = x.stopped }
 
-pub stretch_named : (s : Stretch) (form : Form) (asked : Option ℕ) (line : List ℕ) (r : Reading) → InStretch s form asked line r → IsNamed form asked line r
-stretch_named stretch.LastValue form None line r x = in_named form None line [] r x
-stretch_named stretch.LastValue form (Some number) line r x = absurd x
-stretch_named stretch.Value form None line r x = absurd x
-stretch_named stretch.Value form (Some number) line r (inl x) = in_named form (Some number) line [] r x
-stretch_named stretch.Value form (Some number) line r (inr late) = late_named form number line r late
-stretch_named stretch.Behind form None line r x = absurd x
-stretch_named stretch.Behind form (Some number) line r (inl x) = in_named form (Some number) line (0x09 ∷ x.0) r x.1
-stretch_named stretch.Behind form (Some number) line r (inr late) = late_named form number line r late
+pub stretch_named : (s : Stretch) (written : Spelling) (asked : Option ℕ) (line : List ℕ) (r : Reading) → InStretch s written asked line r → IsNamed written asked line r
+stretch_named stretch.LastValue written None line r x = in_named written None line [] r x
+stretch_named stretch.LastValue written (Some number) line r x = absurd x
+stretch_named stretch.Value written None line r x = absurd x
+stretch_named stretch.Value written (Some number) line r (inl x) = in_named written (Some number) line [] r x
+stretch_named stretch.Value written (Some number) line r (inr late) = late_named written number line r late
+stretch_named stretch.Behind written None line r x = absurd x
+stretch_named stretch.Behind written (Some number) line r (inl x) = in_named written (Some number) line (0x09 ∷ x.0) r x.1
+stretch_named stretch.Behind written (Some number) line r (inr late) = late_named written number line r late
 
 -- ---- the carriage return at its end
 

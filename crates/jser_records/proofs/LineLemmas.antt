@@ -1,5 +1,5 @@
 -- Records that are lines.
-use Rattle.std.proofs.Common.{◌≡◌, ◌≢◌, ◌⊎◌, ℕ, ◌+◌, ◌-◌, ◌≤◌, ◌<◌, ◌^◌, min, Bool, true, false, if◌then◌else◌, List, [], ◌∷◌, ◌++◌, length, take, drop, inl, inr, refl, sym, ap, subst, ◌∙◌, arith, append_assoc, length-append, append-nil, Some, None}
+use Rattle.std.proofs.Common.{◌≡◌, ◌≢◌, ◌⊎◌, ℕ, ◌+◌, ◌-◌, ◌≤◌, ◌<◌, ◌^◌, ◌&&◌, not, min, Bool, true, false, if◌then◌else◌, Option, List, [], ◌∷◌, ◌++◌, length, take, drop, inl, inr, refl, sym, ap, subst, ◌∙◌, arith, append_assoc, length-append, append-nil, Some, None}
 use Rattle.std.proofs.lemmas.List.Elements.{All-append}
 use Rattle.std.proofs.lemmas.List.{get_or-take, length-drop, length-take, length-take-le, take_all, take_at}
 use Rattle.std.specs.Prelude.{IfSome}
@@ -13,6 +13,7 @@ use Rattle.jser_records.specs.declared.answer.Answer.TheVariants as answer
 use Rattle.jser_records.specs.declared.clerk.Clerk.{Clerk}
 use Rattle.jser_records.specs.declared.key.Key.{Key}
 use Rattle.jser_records.specs.declared.layout.Lines.{Lines}
+use Rattle.jser_records.specs.declared.layout.Spelling.{Spelling}
 use Rattle.jser_records.specs.declared.layout.Shape.TheVariants as shape
 use Rattle.jser_records.specs.declared.current.Record.{Record}
 use Rattle.jser_records.specs.declared.lines.Stretch.{Stretch}
@@ -20,22 +21,24 @@ use Rattle.jser_records.specs.declared.parts.Parts.{Parts}
 use Rattle.jser_records.specs.declared.reading.Reading.{Reading}
 use Rattle.jser_records.specs.Arriving.{Arriving, HasNone, IsBefore, IsOver, Took, room_size}
 use Rattle.jser_records.specs.Fields.{AreParts, key_of, part_of}
-use Rattle.jser_records.specs.Held.{Holds, HoldsMore, Terms}
-use Rattle.jser_records.specs.Keys.{HasLostKey, HasNoKey, IsKeyOf, KeepsKey}
-use Rattle.jser_records.specs.Lines.{FieldCame, LineCame, TakesFirst, TakesLine, TakesRest, TakesText, end_of}
-use Rattle.jser_records.specs.Readings.{AddsKey, Came, HasCome, HasSpelled, HasStopped, IsCounted, IsFor, IsOfDigits, IsReady, Value, none, plain, text_of, cut_at, unknown, value_in}
+use Rattle.jser_records.specs.Held.{Holds, HoldsMore, Keeps, Terms, may_pass}
+use Rattle.jser_records.specs.Keys.{HasLostKey, HasNoKey, IsKeyOf, KeepsKey, ends_lines}
+use Rattle.jser_records.specs.LineEnds.{has_line_end}
+use Rattle.jser_records.specs.Lines.{FieldCame, JudgesKey, LineCame, LineEnds, TakesFirst, TakesLine, TakesRest, TakesText, end_of, value_of}
+use Rattle.jser_records.specs.Readings.{AddsKey, Came, HasCome, HasSpelled, HasStopped, IsCounted, IsFor, IsOfDigits, IsReady, KeepsRules, Value, none, plain, text_of, cut_at, unknown, parted, failed, value_in}
 use Rattle.jser_records.specs.Records.{RecordsGo}
 use Rattle.jser_records.specs.Stretches.{GoesOn, InStretch, IsApart, IsOn, LineNamed, PieceEnds}
 use Rattle.jser_records.specs.Texts.{behind_mark, characters_in, is_null, mark_in}
 use Rattle.jser_records.specs.Sized.{at_line}
 use Rattle.jser_records.specs.Told.{Closes, Entry, Quiet, ended}
 use Rattle.jser_records.proofs.FieldLemmas.{parts_value}
-use Rattle.jser_records.proofs.HeldLemmas.{holds_both, holds_none}
+use Rattle.jser_records.proofs.HeldLemmas.{holds_both, holds_none, holds_on, keeps_rules}
 use Rattle.jser_records.proofs.KeyLemmas.{told_key}
 use Rattle.jser_records.proofs.RecordLemmas.{handed, part_said}
 use Rattle.jser_records.proofs.RoomLemmas.{ahead_over, all_passed, took_both, took_first}
 use Rattle.jser_records.proofs.LineEndLemmas.{apart_all, apart_on, apart_piece, counted_bare, goes_later, goes_on, line_named, none_ends, some_before, some_left}
 use Rattle.jser_records.proofs.StretchLemmas.{piece_held}
+use Rattle.jser_records.proofs.ToldLemmas.{quiet_then_changed}
 
 -- the bytes before the first line end, and that
 pub with_end : (end : ℕ) (waiting : List ℕ) (count : ℕ) → IsBefore end waiting count → take (count + 1) waiting ≡ take count waiting ++ (end ∷ [])
@@ -65,7 +68,7 @@ whole_line lines old new count r b is came held = record {
 pub rest_ended : (lines : Lines) (s : Stretch) (old new : Arriving) (count : ℕ) (was mid last : Record) → IsBefore (end_of lines) old.waiting count
     → new ≡ record old { waiting = drop (count + 1) old.waiting } → HoldsMore was mid (take count old.waiting) → HoldsMore mid last (end_of lines ∷ [])
     → (last.reading ≡ mid.reading) ⊎ (last.reading ≡ record mid.reading { answer = Some (answer.Checked found.OutOfMemory) })
-    → ((line : List ℕ) → room_size ≤ length line + 1 → IsApart line (take count old.waiting) → InStretch s lines.form lines.field line was.reading → PieceEnds lines line (take count old.waiting) mid.reading)
+    → ((line : List ℕ) → room_size ≤ length line + 1 → IsApart line (take count old.waiting) → InStretch s lines.spelling lines.field line was.reading → PieceEnds lines line (take count old.waiting) mid.reading)
     → TakesRest lines s old new was last
 rest_ended lines s old new count was mid last b is first more kept ends = record {
   text = take count old.waiting;
@@ -97,8 +100,8 @@ pub record LeavesLast (waiting : List ℕ) (count : ℕ) : Type 0 where
 
 pub some_taken : (lines : Lines) (s next : Stretch) (old new : Arriving) (count : ℕ) (was last : Record) → HasNone (end_of lines) old.waiting → new ≡ record old { waiting = drop count old.waiting }
     → LeavesLast old.waiting count → HoldsMore was last (take count old.waiting)
-    → ((line : List ℕ) → room_size ≤ length line + 1 → IsApart line (take count old.waiting) → InStretch s lines.form lines.field line was.reading
-    → InStretch next lines.form lines.field (line ++ take count old.waiting) last.reading) → TakesText lines s next old new was last
+    → ((line : List ℕ) → room_size ≤ length line + 1 → IsApart line (take count old.waiting) → InStretch s lines.spelling lines.field line was.reading
+    → InStretch next lines.spelling lines.field (line ++ take count old.waiting) last.reading) → TakesText lines s next old new was last
 some_taken lines s next old new count was last clean is leaves held goes = record {
   text = take count old.waiting;
   took = took_first old new count is;
@@ -119,7 +122,7 @@ some_taken lines s next old new count was last clean is leaves held goes = recor
 
 pub first_taken : (lines : Lines) (s : Stretch) (old new : Arriving) (count : ℕ) (r : Record) → HasNone (end_of lines) old.waiting → length old.waiting ≡ room_size → length old.waiting ≤ count + 1
     → LeavesLast old.waiting count → new ≡ record old { waiting = drop count old.waiting } → Holds r (take count old.waiting)
-    → (room_size ≤ length (take count old.waiting) + 1 → InStretch s lines.form lines.field (take count old.waiting) r.reading) → TakesFirst lines s old new r
+    → (room_size ≤ length (take count old.waiting) + 1 → InStretch s lines.spelling lines.field (take count old.waiting) r.reading) → TakesFirst lines s old new r
 first_taken lines s old new count r clean long most leaves is held named =
     let size : length (take count old.waiting) ≡ min count (length old.waiting) = length-take count old.waiting in
     let left : room_size ≤ length (take count old.waiting) + 1 = omega (arith, size, long, most) in
@@ -149,7 +152,7 @@ all_taken old new count all is = subst (λ xs. Took old new xs) (take_all count 
 
 pub rest_last : (lines : Lines) (s : Stretch) (old new : Arriving) (count : ℕ) (was last : Record) → HasNone (end_of lines) old.waiting → length old.waiting ≤ count → IsAtEnd old.to_come
     → new ≡ record old { waiting = drop count old.waiting } → HoldsMore was last old.waiting
-    → ((line : List ℕ) → room_size ≤ length line + 1 → IsApart line old.waiting → InStretch s lines.form lines.field line was.reading → PieceEnds lines line old.waiting last.reading)
+    → ((line : List ℕ) → room_size ≤ length line + 1 → IsApart line old.waiting → InStretch s lines.spelling lines.field line was.reading → PieceEnds lines line old.waiting last.reading)
     → TakesRest lines s old new was last
 rest_last lines s old new count was last clean all ends is held named = record {
   text = old.waiting;
@@ -217,10 +220,12 @@ tail_is end text tail now some (inr last) = inr (last.0, some, last.1)
 
 named_came : (lines : Lines) (text : List ℕ) (r : Reading) → LineNamed lines text r → LineCame lines text r
 named_came lines text r x = record {
-  value = value_in lines.form x.named.field;
+  bare = x.bare;
+  is_bare = x.is_bare;
+  field = x.named.field;
   key = x.named.named;
-  is = record { bare = x.bare; is_bare = x.is_bare; field = x.named.field; is_field = x.named.is_value; is_value = refl };
-  came = λ counted. x.named.came (counted_bare lines lines.form text x.bare x.is_bare counted);
+  is_field = x.named.is_value;
+  came = λ counted. x.named.came (counted_bare lines lines.spelling.form text x.bare x.is_bare counted);
   key_is = x.named.kept;
   stopped = x.named.stopped;
 }
@@ -265,12 +270,86 @@ lost_told r entry (inl same) stopped right lost =
     let no_more = stopped (subst HasLostKey same lost) in
     no_value r.judge.rules r.most entry.key.is_lost entry.answer (right none (inr no_more)) (right unknown (inr no_more))
 
+-- ---- a reader of lines may end one in the KEY
+
+-- what is kept of a KEY is judged as the KEY is, unless it is lost
+judged_none : (key : Key) → key.is_there ≡ false → (b : Bool) → b && ends_lines key ≡ false
+judged_none key off true = ap (λ a. a && has_line_end key.bytes.items) off
+judged_none key off false = refl
+
+judged_some : (key : Key) (bytes : List ℕ) → key.is_there ≡ true → key.bytes.items ≡ bytes → (b : Bool) → b && ends_lines key ≡ b && has_line_end bytes
+judged_some key bytes there is b = ap (λ a. b && (a && has_line_end key.bytes.items)) there ∙ ap (λ xs. b && has_line_end xs) is
+
+same_if : (b : Bool) (old new : Reading) → b ≡ false → new ≡ (if b then record old { answer = Some answer.LineEndInKey } else old) → new ≡ old
+same_if true old new off is = absurd (cc)
+same_if false old new off is = is
+
+came_if : (b : Bool) (old new : Reading) (value : Value) → new ≡ (if b then record old { answer = Some answer.LineEndInKey } else old) → Came old value → Came new (if b then parted else value)
+came_if true old new value is came = inl (ap (λ r. r.answer) is)
+came_if false old new value is came = subst (λ r. Came r value) (sym is) came
+
+and_none : (b : Bool) → b && false ≡ false
+and_none true = refl
+and_none false = refl
+
+judged_came : (lines : Lines) (old new : Reading) (key : Option (List ℕ)) (field : List ℕ) → JudgesKey lines old new → IsKeyOf old.key key → (HasLostKey old.key → HasStopped old)
+    → Came old (value_in lines.spelling field) → Came new (value_of lines key field)
+judged_came lines old new None field is (inl known) stopped came =
+    let same : new ≡ old = same_if (not lines.zero && ends_lines old.key) old new (judged_none old.key known.0.none (not lines.zero)) is in
+    subst (λ b. Came new (if b then parted else value_in lines.spelling field)) (sym (and_none (not lines.zero))) (subst (λ r. Came r (value_in lines.spelling field)) (sym same) came)
+judged_came lines old new (Some bytes) field is (inl known) stopped came =
+    let b : Bool = not lines.zero && has_line_end bytes in
+    let judged : new ≡ (if b then record old { answer = Some answer.LineEndInKey } else old) =
+    is ∙ ap (λ a. if a then record old { answer = Some answer.LineEndInKey } else old) (judged_some old.key bytes known.0.0 known.0.1 (not lines.zero)) in
+    came_if b old new (value_in lines.spelling field) judged came
+judged_came lines old new key field is (inr lost) stopped came =
+    let same : new ≡ old = same_if (not lines.zero && ends_lines old.key) old new (judged_none old.key lost.0.none (not lines.zero)) is in
+    inr (subst HasStopped (sym same) (stopped lost.0))
+
+-- all but the answer stays
+record KeptBut (old new : Reading) : Type 0 where
+  pub key : new.key ≡ old.key
+  pub rules : KeepsRules old new
+  pub may : may_pass new.answer ≡ true → may_pass old.answer ≡ true
+  pub lost : HasLostKey new.key → (HasLostKey old.key → HasStopped old) → HasStopped new
+
+kept_if : (b : Bool) (old new : Reading) → (HasLostKey old.key → b ≡ false) → new ≡ (if b then record old { answer = Some answer.LineEndInKey } else old) → KeptBut old new
+kept_if true old new off is = record {
+  key = ap (λ r. r.key) is;
+  rules = record { rules = ap (λ r. r.judge.rules) is; most = ap (λ r. r.most) is };
+  may = λ yes. let no : may_pass new.answer ≡ false = ap (λ r. may_pass r.answer) is in absurd (cc);
+  lost = λ is_lost stopped. let no = off (subst HasLostKey (ap (λ r. r.key) is) is_lost) in absurd (cc);
+}
+kept_if false old new off is = record {
+  key = ap (λ r. r.key) is;
+  rules = record { rules = ap (λ r. r.judge.rules) is; most = ap (λ r. r.most) is };
+  may = λ yes. sym (ap (λ r. may_pass r.answer) is) ∙ yes;
+  lost = λ is_lost stopped. subst HasStopped (sym is) (stopped (subst HasLostKey (ap (λ r. r.key) is) is_lost));
+}
+
+judged_kept : (lines : Lines) (old new : Reading) → JudgesKey lines old new → KeptBut old new
+judged_kept lines old new is = kept_if (not lines.zero && ends_lines old.key) old new (λ lost. judged_none old.key lost.none (not lines.zero)) is
+
+-- it was judged, and ended
+pub line_closed : (lines : Lines) (old new : Clerk) (reading : Reading) (p q s t : SinkState) (passed : Bool) → JudgesKey lines old.current.reading reading
+    → Closes (record old { current = record old.current { reading = reading } }) new p q s t passed → LineEnds lines old new p q s t
+line_closed lines old new reading p q s t passed judges closes = record { reading = reading; judges = judges; passed = passed; closes = closes }
+
 -- a record ended whose bytes are a line
-pub line_ended : (lines : Lines) (old last new : Clerk) (from now : Arriving) (p q r s t u : SinkState) (passed : Bool) → Quiet old last p q s t
-    → TakesLine lines from now last.current → Closes last new q r t u passed → RecordsGo (shape.Lines lines) at_line at_line old new from now p r s u
-line_ended lines old last new from now p q r s t u passed quiet x closes =
+pub line_ended : (lines : Lines) (old last new : Clerk) (from now : Arriving) (p q r s t u : SinkState) → Quiet old last p q s t
+    → TakesLine lines from now last.current → LineEnds lines last new q r t u → RecordsGo (shape.Lines lines) at_line at_line old new from now p r s u
+line_ended lines old last new from now p q r s t u quiet x ends =
+    let was : Reading = last.current.reading in
+    let judged : Record = record last.current { reading = ends.reading } in
+    let kept : KeptBut was ends.reading = judged_kept lines was ends.reading ends.judges in
+    let keeps : Keeps last.current judged = keeps_rules last.current judged kept.rules refl in
+    let quiet_too : Quiet old (record last { current = judged }) p q s t = quiet_then_changed old last (record last { current = judged }) p q s t quiet refl keeps in
+    let held : Holds judged (x.text ++ x.tail) = holds_on last.current judged refl refl kept.may (x.text ++ x.tail) x.held in
+    let key_is : IsKeyOf ends.reading.key x.came.key = subst (λ k. IsKeyOf k x.came.key) (sym kept.key) x.came.key_is in
+    let closes = ends.closes in
     let entry : Entry = closes.entry in
-    part_said (shape.Lines lines) at_line at_line old last new from now p q r s t u (ended entry) (x.text ++ x.tail) quiet x.took closes.says closes.keeps
+    let value : Value = value_of lines x.came.key x.came.field in
+    part_said (shape.Lines lines) at_line at_line old (record last { current = judged }) new from now p q r s t u (ended entry) (x.text ++ x.tail) quiet_too x.took closes.says closes.keeps
     (λ rest known. (
       refl,
       record {
@@ -281,16 +360,17 @@ line_ended lines old last new from now p q r s t u passed quiet x closes =
         is = line_is (end_of lines) x.text x.tail rest now x.is (λ over. ahead_over now rest over known);
         answers =
             record {
-              value = x.came.value;
+              value = value;
               key = x.came.key;
-              is = x.came.is;
-              key_told = told_key last.current.reading.key entry x.came.key x.came.key_is closes.key;
-              lost_told = lost_told last.current.reading entry closes.key x.came.stopped closes.right;
+              is = record { bare = x.came.bare; is_bare = x.came.is_bare; field = x.came.field; is_field = x.came.is_field; is_value = refl };
+              key_told = told_key ends.reading.key entry x.came.key key_is closes.key;
+              lost_told = lost_told ends.reading entry closes.key (λ lost. kept.lost lost x.came.stopped) closes.right;
               right =
                   λ counted.
-                  subst (λ (t : Terms). IsFor t.rules t.most entry.key.is_lost x.came.value entry.answer) quiet.keeps (closes.right x.came.value (x.came.came counted));
+                  subst (λ (t : Terms). IsFor t.rules t.most entry.key.is_lost value entry.answer) quiet_too.keeps
+                  (closes.right value (judged_came lines was ends.reading x.came.key x.came.field ends.judges x.came.key_is x.came.stopped (x.came.came counted)));
             };
-        held = handed old.current last.current entry (x.text ++ x.tail) quiet.keeps x.held closes.held closes.may;
+        held = handed old.current judged entry (x.text ++ x.tail) quiet_too.keeps held closes.held closes.may;
       },
     ))
 
@@ -317,6 +397,8 @@ has_keyed old key (plain bytes) came = record { read = came.read; place = came.p
 has_keyed old key (text_of form mark text) came = came
 has_keyed old key (cut_at at total) came = came
 has_keyed old key unknown came = came
+has_keyed old key parted came = came
+has_keyed old key failed came = came
 
 pub came_keyed : (old new : Reading) (value : Value) (bytes : List ℕ) → AddsKey old new bytes → Came old value → Came new value
 came_keyed old new value bytes (inl adds) (inl came) = inl (subst (λ r. HasCome r value) (sym adds.0) (has_keyed old new.key value came))
@@ -324,29 +406,29 @@ came_keyed old new value bytes (inl adds) (inr (inl out)) = inr (inl (ap (λ r. 
 came_keyed old new value bytes (inl adds) (inr (inr lost)) = let not = adds.1.kept in let yes = lost.1 in absurd (cc)
 came_keyed old new value bytes (inr long) came = inr (inr (ap (λ r. r.answer) long.0, long.1.lost))
 
-value_if : (b : Bool) (old new : Reading) (form : Form) (field : List ℕ) → (b ≡ true → new.answer ≡ Some answer.Null)
-    → (b ≡ false → HasSpelled new form (mark_in form field) (characters_in form (behind_mark form field)))
-    → Came new (if b then none else text_of form (mark_in form field) (characters_in form (behind_mark form field)))
-value_if true old new form field null text = inl (null refl)
-value_if false old new form field null text = inl (text refl)
+value_if : (b : Bool) (old new : Reading) (written : Spelling) (field : List ℕ) → (b ≡ true → new.answer ≡ Some answer.Null)
+    → (b ≡ false → HasSpelled new written.form (mark_in written.form field) (characters_in written.copy (behind_mark written.form field)))
+    → Came new (if b then none else text_of written.form (mark_in written.form field) (characters_in written.copy (behind_mark written.form field)))
+value_if true old new written field null text = inl (null refl)
+value_if false old new written field null text = inl (text refl)
 
 -- the characters of a field came
-pub front_came : (old new : Reading) (form : Form) (field : List ℕ) → IsOfDigits form → length field < 2 ^ 63 → (is_null field ≡ true → old.answer ≡ None → new.answer ≡ Some answer.Null)
-    → (is_null field ≡ false → old.answer ≡ None → IsOfDigits form → length field < 2 ^ 63 → HasSpelled old form 0 [] → HasSpelled new form (mark_in form field) (characters_in form (behind_mark form field)))
-    → IfSome old.answer (λ a. new.answer ≡ Some a) → new.key ≡ old.key → IsReady old form → Came new (value_in form field)
-front_came old new form field digits few null text kept key (inl ready) =
-    value_if (is_null field) old new form field (λ is. null is ready.0) (λ is. text is ready.0 digits few ready.1)
-front_came old new form field digits few null text kept key (inr (inl out)) = inr (inl (subst (λ o. IfSome o (λ a. new.answer ≡ Some a)) out kept))
-front_came old new form field digits few null text kept key (inr (inr lost)) =
+pub front_came : (old new : Reading) (written : Spelling) (field : List ℕ) → IsOfDigits written.form → length field < 2 ^ 63 → (is_null field ≡ true → old.answer ≡ None → new.answer ≡ Some answer.Null)
+    → (is_null field ≡ false → old.answer ≡ None → IsOfDigits written.form → length field < 2 ^ 63 → HasSpelled old written.form 0 [] → HasSpelled new written.form (mark_in written.form field) (characters_in written.copy (behind_mark written.form field)))
+    → IfSome old.answer (λ a. new.answer ≡ Some a) → new.key ≡ old.key → IsReady old written.form → Came new (value_in written field)
+front_came old new written field digits few null text kept key (inl ready) =
+    value_if (is_null field) old new written field (λ is. null is ready.0) (λ is. text is ready.0 digits few ready.1)
+front_came old new written field digits few null text kept key (inr (inl out)) = inr (inl (subst (λ o. IfSome o (λ a. new.answer ≡ Some a)) out kept))
+front_came old new written field digits few null text kept key (inr (inr lost)) =
     inr (inr (subst (λ o. IfSome o (λ a. new.answer ≡ Some a)) lost.0 kept, ap (λ k. k.is_lost) key ∙ lost.1))
 
 -- a field of a line came
-pub part_came : (lines : Lines) (line value : List ℕ) (parts : Parts) (old mid next last : Reading) → value ≡ part_of line parts → (IsReady old lines.form → IsReady mid lines.form)
+pub part_came : (lines : Lines) (line value : List ℕ) (parts : Parts) (old mid next last : Reading) → value ≡ part_of line parts → (IsReady old lines.spelling.form → IsReady mid lines.spelling.form)
     → (is_null value ≡ true → mid.answer ≡ None → next.answer ≡ Some answer.Null)
-    → (is_null value ≡ false → mid.answer ≡ None → IsOfDigits lines.form → length value < 2 ^ 63 → HasSpelled mid lines.form 0 []
-    → HasSpelled next lines.form (mark_in lines.form value) (characters_in lines.form (behind_mark lines.form value)))
-    → IfSome mid.answer (λ a. next.answer ≡ Some a) → next.key ≡ mid.key → ((v : Value) → Came next v → Came last v) → IsReady old lines.form → IsCounted lines.form line
-    → Came last (value_in lines.form (part_of line parts))
+    → (is_null value ≡ false → mid.answer ≡ None → IsOfDigits lines.spelling.form → length value < 2 ^ 63 → HasSpelled mid lines.spelling.form 0 []
+    → HasSpelled next lines.spelling.form (mark_in lines.spelling.form value) (characters_in lines.spelling.copy (behind_mark lines.spelling.form value)))
+    → IfSome mid.answer (λ a. next.answer ≡ Some a) → next.key ≡ mid.key → ((v : Value) → Came next v → Came last v) → IsReady old lines.spelling.form → IsCounted lines.spelling.form line
+    → Came last (value_in lines.spelling (part_of line parts))
 part_came lines line value parts old mid next last is ready null text kept key more first counted =
     let few : length value < 2 ^ 63 =
     let size = ap length is in
@@ -354,12 +436,12 @@ part_came lines line value parts old mid next last is ready null text kept key m
     let of_drop = length-drop parts.from line in
     let all = counted.few in
     omega (arith, size, of_take, of_drop, all) in
-    subst (λ xs. Came last (value_in lines.form xs)) is
-    (more (value_in lines.form value) (front_came mid next lines.form value counted.digits few null text kept key (ready first)))
+    subst (λ xs. Came last (value_in lines.spelling xs)) is
+    (more (value_in lines.spelling value) (front_came mid next lines.spelling value counted.digits few null text kept key (ready first)))
 
 -- and its KEY
 pub field_came : (lines : Lines) (line : List ℕ) (parts : Parts) (old last : Reading) → AreParts lines.field line parts
-    → (IsReady old lines.form → IsCounted lines.form line → Came last (value_in lines.form (part_of line parts))) → (HasNoKey old.key → IsKeyOf last.key (key_of line parts))
+    → (IsReady old lines.spelling.form → IsCounted lines.spelling.form line → Came last (value_in lines.spelling (part_of line parts))) → (HasNoKey old.key → IsKeyOf last.key (key_of line parts))
     → (HasNoKey old.key → HasLostKey last.key → HasStopped last) → FieldCame lines line old last
 field_came lines line parts old last are came named stopped =
     record { field = part_of line parts; key = key_of line parts; is_field = parts_value lines.field line parts are; came = came; key_is = named; stopped = stopped }

@@ -1,5 +1,5 @@
 -- Where nobody knows what comes next, a record was counted as not read.
-use Rattle.std.proofs.Common.{◌≡◌, ◌≢◌, ℕ, ◌<◌, Bool, List, [], ◌∷◌, inl, inr, refl, sym, ap, subst, ◌∙◌, arith, if◌then◌else◌}
+use Rattle.std.proofs.Common.{◌≡◌, ◌≢◌, ◌⊎◌, ℕ, ◌<◌, Bool, true, List, [], ◌∷◌, inl, inr, refl, sym, ap, subst, ◌∙◌, arith, if◌then◌else◌}
 use Rattle.std.specs.Prelude.{nat_lt}
 use Rattle.std.proofs.lemmas.Bool.{lt-ltb}
 use Rattle.jser_scan.specs.declared.Found.{Found}
@@ -12,7 +12,7 @@ use Rattle.jser_records.specs.declared.answer.Answer.TheVariants as answer
 use Rattle.jser_records.specs.declared.layout.Shape.{Shape}
 use Rattle.jser_records.specs.declared.layout.Shape.TheVariants as shape
 use Rattle.jser_records.specs.Held.{Terms, passes}
-use Rattle.jser_records.specs.Readings.{IsFor, Value, none, plain, text_of, cut_at, unknown}
+use Rattle.jser_records.specs.Readings.{IsFor, Value, none, plain, text_of, cut_at, unknown, parted, failed}
 use Rattle.jser_records.specs.Records.{AreRecords, IsPart}
 use Rattle.jser_records.specs.Sized.{At, IsSized, SizedPart, at_line, at_line_end, at_loss, next_at}
 use Rattle.jser_records.specs.Told.{Event, all_counted, behind, counted, counted_event, ended, passed_over}
@@ -32,6 +32,8 @@ counted_kept tally (answer.Longer most) some = omega (arith, some)
 counted_kept tally answer.LongKey some = omega (arith, some)
 counted_kept tally (answer.Cut at total) some = omega (arith, some)
 counted_kept tally answer.NoLength some = omega (arith, some)
+counted_kept tally answer.LineEndInKey some = omega (arith, some)
+counted_kept tally answer.ErrorReply some = omega (arith, some)
 
 unread_kept : (tally : Tally) (events : List Event) → 0 < tally.unread → 0 < (all_counted tally events).unread
 unread_kept tally [] some = some
@@ -39,10 +41,17 @@ unread_kept tally (ended e ∷ es) some = unread_kept (counted tally e.answer) e
 unread_kept tally (behind bytes ∷ es) some = unread_kept tally es some
 unread_kept tally (passed_over bytes ∷ es) some = unread_kept tally es some
 
+stopped_counted : (is_lost : Bool) (result : Answer) (tally : Tally) → (result ≡ answer.Checked found.OutOfMemory) ⊎ ((result ≡ answer.LongKey) × (is_lost ≡ true)) → 0 < (counted tally result).unread
+stopped_counted is_lost result tally (inl is) = subst (λ a. 0 < (counted tally a).unread) (sym is) (omega arith)
+stopped_counted is_lost result tally (inr is) = subst (λ a. 0 < (counted tally a).unread) (sym is.0) (omega arith)
+
 loss_counted : (rules : Rules) (most : ℕ) (is_lost : Bool) (result : Answer) (tally : Tally) → IsFor rules most is_lost unknown result → 0 < (counted tally result).unread
 loss_counted rules most is_lost result tally (inl is) = subst (λ a. 0 < (counted tally a).unread) (sym is) (omega arith)
-loss_counted rules most is_lost result tally (inr (inl is)) = subst (λ a. 0 < (counted tally a).unread) (sym is) (omega arith)
-loss_counted rules most is_lost result tally (inr (inr is)) = subst (λ a. 0 < (counted tally a).unread) (sym is.0) (omega arith)
+loss_counted rules most is_lost result tally (inr stopped) = stopped_counted is_lost result tally stopped
+
+parted_counted : (rules : Rules) (most : ℕ) (is_lost : Bool) (result : Answer) (tally : Tally) → IsFor rules most is_lost parted result → 0 < (counted tally result).unread
+parted_counted rules most is_lost result tally (inl is) = subst (λ a. 0 < (counted tally a).unread) (sym is) (omega arith)
+parted_counted rules most is_lost result tally (inr stopped) = stopped_counted is_lost result tally stopped
 
 no_loss : (line key : List ℕ) (value : Value) (body rest : List ℕ) (passed : Bool) → IsSized line key value body rest → next_at value passed ≡ at_loss → ⊥
 no_loss line key none body rest passed is lost = absurd (cc)
@@ -50,10 +59,13 @@ no_loss line key (plain value) body rest passed is lost = absurd (cc)
 no_loss line key (text_of form mark text) body rest passed is lost = is
 no_loss line key (cut_at at total) body rest passed is lost = absurd (cc)
 no_loss line key unknown body rest passed is lost = is
+no_loss line key parted body rest passed is lost = is
+no_loss line key failed body rest passed is lost = absurd (cc)
 
 sized_lost : (terms : Terms) (at to : At) (bytes rest : List ℕ) (event : Event) (tally : Tally) → SizedPart terms at bytes event to rest → to ≡ at_loss → 0 < (counted_event tally event).unread
 sized_lost terms at_line to bytes rest (ended e) tally (inl sized) lost = absurd (no_loss sized.line sized.key sized.value sized.body rest (passes e.answer) sized.is (sym sized.next ∙ lost))
-sized_lost terms at_line to bytes rest (ended e) tally (inr loss) lost = loss_counted terms.rules terms.most e.key.is_lost e.answer tally loss.0.right
+sized_lost terms at_line to bytes rest (ended e) tally (inr (inl loss)) lost = loss_counted terms.rules terms.most e.key.is_lost e.answer tally loss.0.right
+sized_lost terms at_line to bytes rest (ended e) tally (inr (inr loss)) lost = parted_counted terms.rules terms.most e.key.is_lost e.answer tally loss.0.right
 sized_lost terms at_line to bytes rest (behind some) tally part lost = absurd part
 sized_lost terms at_line to bytes rest (passed_over some) tally part lost = let not : to ≡ at_line = part.next in absurd (cc)
 sized_lost terms (at_line_end passed) to bytes rest (ended e) tally part lost = loss_counted terms.rules terms.most e.key.is_lost e.answer tally part.0.right

@@ -93,6 +93,8 @@ bytes_placed form mark text (answer.Longer most) is = tt
 bytes_placed form mark text answer.LongKey is = tt
 bytes_placed form mark text (answer.Cut at total) is = tt
 bytes_placed form mark text answer.NoLength is = tt
+bytes_placed form mark text answer.LineEndInKey is = tt
+bytes_placed form mark text answer.ErrorReply is = tt
 
 same_place : (d : TextRead) (form : Form) (mark count n : ℕ) → d.form ≡ form → d.at ≡ min (mark + count) most_place → n ≡ count → misspelled d.form d.at ≡ misspelled form (min (mark + n) most_place)
 same_place d form mark count n is at all =

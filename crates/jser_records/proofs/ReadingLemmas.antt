@@ -20,7 +20,7 @@ use Rattle.jser_records.specs.declared.answer.Answer.{Answer}
 use Rattle.jser_records.specs.declared.answer.Answer.TheVariants as answer
 use Rattle.jser_records.specs.Judged.{HasJudged, IsDecided, IsSound, Judging}
 use Rattle.jser_records.specs.declared.reading.Reading.{Reading}
-use Rattle.jser_records.specs.Readings.{Came, HasCome, HasRead, HasSpelled, IsFor, IsOf, IsOfBytes, IsOfDigits, IsPlaced, IsRight, IsWrongIn, Spells, Stands, Value, none, plain, text_of, cut_at, unknown}
+use Rattle.jser_records.specs.Readings.{Came, HasCome, HasRead, HasSpelled, IsFor, IsOf, IsOfBytes, IsOfDigits, IsPlaced, IsRight, IsWrongIn, Spells, Stands, Value, none, plain, text_of, cut_at, unknown, parted, failed}
 use Rattle.jser_records.proofs.PlaceLemmas.{placed_now}
 use Rattle.jser_records.proofs.SpareLemmas.{IsDigitPlace, spare_within}
 
@@ -252,6 +252,8 @@ finish_of r result (plain bytes) right spelled is_of kept came = (right bytes ca
 finish_of r result (text_of form mark text) right spelled is_of kept came = spelled form mark text came
 finish_of r result (cut_at at total) right spelled is_of kept came = subst (λ o. IfSome o (λ b. result ≡ b)) came kept
 finish_of r result unknown right spelled is_of kept came = subst (λ o. IfSome o (λ b. result ≡ b)) came kept
+finish_of r result parted right spelled is_of kept came = subst (λ o. IfSome o (λ b. result ≡ b)) came kept
+finish_of r result failed right spelled is_of kept came = subst (λ o. IfSome o (λ b. result ≡ b)) came kept
 
 pub finish_for : (r : Reading) (is_lost : Bool) (result : Answer) (value : Value) → ((bytes : List ℕ) → HasRead r bytes → IsRight r.judge.rules r.most bytes result)
     → ((form : Form) (mark : ℕ) (text : List ℕ) → HasSpelled r form mark text → IsRight r.judge.rules r.most (spelling_of form text) result × IsPlaced form mark text result)

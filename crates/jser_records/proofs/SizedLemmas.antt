@@ -7,6 +7,7 @@ use Rattle.std.specs.Io.KnownBytes.{IsAtEnd}
 use Rattle.jser_prim.specs.Outgoing.{SinkState}
 use Rattle.jser_inputs.specs.declared.place.Place.TheVariants as place
 use Rattle.jser_scan.specs.declared.Found.TheVariants as found
+use Rattle.jser_records.specs.declared.answer.Answer.{Answer}
 use Rattle.jser_records.specs.declared.answer.Answer.TheVariants as answer
 use Rattle.jser_records.specs.declared.clerk.Clerk.{Clerk}
 use Rattle.jser_records.specs.declared.header.Header.{Header}
@@ -18,14 +19,15 @@ use Rattle.jser_records.specs.declared.sized.LineEnd.TheVariants as line_end
 use Rattle.jser_records.specs.Arriving.{Arriving, HasNone, IsOver, Took, ahead, room_size}
 use Rattle.jser_records.specs.Frames.{Takes}
 use Rattle.jser_records.specs.Headers.{EndsKey, IsHeader, SaysLength, SaysNull}
-use Rattle.jser_records.specs.Held.{Holds, Keeps, Terms, terms_of}
+use Rattle.jser_records.specs.Held.{Holds, Keeps, Terms, may_pass, terms_of}
 use Rattle.jser_records.specs.Keys.{HasNoKey, IsKeyOf, key_if}
-use Rattle.jser_records.specs.Readings.{AddsKey, Came, HasLost, HasPlain, HasRead, IsFor, Value, none, plain, cut_at, unknown}
+use Rattle.jser_records.specs.Readings.{AddsKey, Came, HasCome, HasLost, HasPlain, HasRead, IsFor, Value, none, plain, text_of, cut_at, unknown, parted, failed}
 use Rattle.jser_records.specs.declared.run.Trouble.{Trouble}
 use Rattle.jser_records.specs.Records.{NextBy, RecordsEnd, RecordsGo}
-use Rattle.jser_records.specs.Sized.{At, FirstLine, HasBegun, HasNoLineEnd, HeadWaits, IsSized, LineEndOf, LineWaits, LossOf, SizedPart, TellsLoss, WithoutReturn, at_line, at_line_end, at_loss, line_end_at, next_at}
+use Rattle.jser_records.specs.Sized.{At, FirstLine, HasBegun, HasNoLineEnd, HeadWaits, IsLoss, IsSized, LineEndOf, LineWaits, LossOf, SizedPart, TellsLoss, WithoutReturn, at_line, at_line_end, at_loss, line_end_at, next_at}
 use Rattle.jser_records.specs.Told.{Closes, Entry, Quiet, SaysAll, behind_it, ended, passed_over}
 use Rattle.jser_records.proofs.FrameLemmas.{key_kept, plain_begun, plain_held}
+use Rattle.jser_records.proofs.HeldLemmas.{holds_refused}
 use Rattle.jser_records.proofs.KeyLemmas.{told_key}
 use Rattle.jser_records.proofs.LineLemmas.{with_end}
 use Rattle.jser_records.proofs.RecordLemmas.{handed, part_said, records_both, records_none, records_then}
@@ -195,15 +197,15 @@ value_read old begun last new from mid now p q r s t u passed key count size h i
     let name : List ℕ = take key h.line in
     let known : IsKeyOf last.current.reading.key (key_if name) =
     subst (λ k. IsKeyOf k (key_if name)) (sym same)
-    (subst (λ xs. IsKeyOf begun.current.reading.key (key_if xs)) (head_key from size key (header.Bytes key count) h (says_within h.line key count h.says)) named) in
+    (subst (λ xs. IsKeyOf begun.current.reading.key (key_if xs)) (head_key from size key (header.Bytes key count) h (says_within h.line key count h.says.1)) named) in
     let head : List ℕ = take size from.waiting in
     elim x.whole [
       | inl (all, came) ↦
           sized_said old last new from mid now p q r s t u passed size (header.Bytes key count) name x.bytes (plain x.bytes) h is x.took
-          (λ rest over. (subst (λ n. SaysLength h.line name n) (sym all) h.says, refl)) quiet came known (x.held head holds) closes
+          (λ rest over. (h.says.0, subst (λ n. SaysLength h.line name n) (sym all) h.says.1, refl)) quiet came known (x.held head holds) closes
       | inr cut ↦
           sized_said old last new from mid now p q r s t u passed size (header.Bytes key count) name x.bytes (cut_at (length x.bytes) count) h is x.took
-          (λ rest over. (h.says, refl, cut.fewer, over cut.over)) quiet (inl cut.cut) known (x.held head holds) closes
+          (λ rest over. (h.says.0, h.says.1, refl, cut.fewer, over cut.over)) quiet (inl cut.cut) known (x.held head holds) closes
     ]
 
 begun_null : (old new : Reading) → (old.answer ≡ None → new.answer ≡ Some answer.Null) → IfSome old.answer (λ a. new.answer ≡ Some a) → new.key ≡ old.key
@@ -217,10 +219,10 @@ pub null_read : (old last new : Clerk) (was : Reading) (from now : Arriving) (p 
     → IfSome was.answer (λ a. last.current.reading.answer ≡ Some a) → last.current.reading.key ≡ was.key → IsKeyOf was.key (key_if (take key (take size from.waiting)))
     → Holds last.current (take size from.waiting) → Closes last new q r t u passed → RecordsGo shape.Sized at_line at_line old new from now p r s u
 null_read old last new was from now p q r s t u passed key size h is quiet begun null kept same named holds closes =
-    sized_said old last new from now now p q r s t u passed size (header.Null key) (take key h.line) [] none h is (took_none now) (λ rest over. (h.says, refl)) quiet
+    sized_said old last new from now now p q r s t u passed size (header.Null key) (take key h.line) [] none h is (took_none now) (λ rest over. (h.says.0, h.says.1, refl)) quiet
     (begun_null was last.current.reading null kept same begun.open_so_far)
     (subst (λ k. IsKeyOf k (key_if (take key h.line))) (sym same)
-    (subst (λ xs. IsKeyOf was.key (key_if xs)) (head_key from size key (header.Null key) h (null_within h.line key h.says)) named))
+    (subst (λ xs. IsKeyOf was.key (key_if xs)) (head_key from size key (header.Null key) h (null_within h.line key h.says.1)) named))
     (subst (λ xs. Holds last.current xs) (sym (append-nil (take size from.waiting))) holds) closes
 
 -- ---- no record
@@ -230,55 +232,83 @@ pub reply_read : (a : Clerk) (from now : Arriving) (p s : SinkState) (size : ℕ
 reply_read a from now p s size h is =
     let head : List ℕ = take size from.waiting in
     part_said shape.Sized at_line at_line a a a from now p p p s s s (passed_over head) head (quiet_none a p s) (took_first from now size is) (said_none a p s head) refl
-    (λ rest known. record { line = h.line; first = first_line from now size header.Other (head ++ rest) rest h is known refl; says = h.says; next = refl })
+    (λ rest known. record { line = h.line; first = first_line from now size header.Other (head ++ rest) rest h is known refl; is_head = h.says.0; says = h.says.1; next = refl })
 
 -- nobody knows what comes next
-loss_said : (at : At) (old last new : Clerk) (from now : Arriving) (p q r s t u : SinkState) → Quiet old last p q s t → Took from now [] → (loss : TellsLoss last new q r t u)
-    → ((rest : List ℕ) → ahead now ≡ Some rest → LossOf (terms_of old.current) rest loss.entry at_loss rest → SizedPart (terms_of old.current) at rest (ended loss.entry) at_loss rest)
+loss_said : (value : Value) (at : At) (old last new : Clerk) (from now : Arriving) (p q r s t u : SinkState) → Quiet old last p q s t → Took from now [] → (loss : TellsLoss value last new q r t u)
+    → ((rest : List ℕ) → ahead now ≡ Some rest → LossOf (terms_of old.current) value rest loss.entry at_loss rest → SizedPart (terms_of old.current) at rest (ended loss.entry) at_loss rest)
     → RecordsEnd shape.Sized at old new from now p r s u
-loss_said at old last new from now p q r s t u quiet took loss is = (
+loss_said value at old last new from now p q r s t u quiet took loss is = (
   at_loss,
   part_said shape.Sized at at_loss old last new from now p q r s t u (ended loss.entry) [] quiet took loss.says loss.keeps
       (λ rest known. is rest known (record {
         next = refl;
         none_taken = refl;
         right =
-            subst (λ (t : Terms). IsFor t.rules t.most loss.entry.key.is_lost unknown loss.entry.answer) quiet.keeps loss.right;
+            subst (λ (t : Terms). IsFor t.rules t.most loss.entry.key.is_lost value loss.entry.answer) quiet.keeps loss.right;
         no_key = loss.no_key;
       })),
   inl refl,
 )
 
-pub no_length_read : (old new : Clerk) (from : Arriving) (p r s u : SinkState) (size : ℕ) → HeadWaits from size header.NoLength → TellsLoss old new p r s u → RecordsEnd shape.Sized at_line old new from from p r s u
+pub no_length_read : (old new : Clerk) (from : Arriving) (p r s u : SinkState) (size : ℕ) → HeadWaits from size header.NoLength → TellsLoss unknown old new p r s u → RecordsEnd shape.Sized at_line old new from from p r s u
 no_length_read old new from p r s u size h loss =
     let head : List ℕ = take size from.waiting in
     let mid = record from { waiting = drop size from.waiting } in
-    loss_said at_line old old new from from p p r s s u (quiet_none old p s) (took_none from) loss
+    loss_said unknown at_line old old new from from p p r s s u (quiet_none old p s) (took_none from) loss
     (λ rest known l.
     let x = ahead_took from mid head rest (took_first from mid size refl) known in
-    inr (l, inl (record { line = h.line; head = head; rest = x.0; first = first_line from mid size header.NoLength rest x.0 h refl x.1 x.2; says = h.says })))
+    inr (inl (l, inl (record { line = h.line; head = head; rest = x.0; first = first_line from mid size header.NoLength rest x.0 h refl x.1 x.2; is_head = h.says.0; says = h.says.1 }))))
+
+-- a reader of lines may end one in the line
+pub parted_read : (old new : Clerk) (from : Arriving) (p r s u : SinkState) (size : ℕ) → HeadWaits from size header.LineEnd → TellsLoss parted old new p r s u → RecordsEnd shape.Sized at_line old new from from p r s u
+parted_read old new from p r s u size h loss =
+    let head : List ℕ = take size from.waiting in
+    let mid = record from { waiting = drop size from.waiting } in
+    loss_said parted at_line old old new from from p p r s s u (quiet_none old p s) (took_none from) loss
+    (λ rest known l.
+    let x = ahead_took from mid head rest (took_first from mid size refl) known in
+    inr (inr (l, record { line = h.line; head = head; rest = x.0; first = first_line from mid size header.LineEnd rest x.0 h refl x.1 x.2; parts = h.says })))
+
+-- an error stands there
+pub error_read : (old last new : Clerk) (from now : Arriving) (p q r s t u : SinkState) (passed : Bool) (size : ℕ) → HeadWaits from size header.Error
+    → now ≡ record from { waiting = drop size from.waiting } → Quiet old last p q s t → last.current.reading.answer ≡ Some answer.ErrorReply → IsKeyOf last.current.reading.key None
+    → Closes last new q r t u passed → RecordsGo shape.Sized at_line at_line old new from now p r s u
+error_read old last new from now p q r s t u passed size h is quiet told named closes =
+    sized_said old last new from now now p q r s t u passed size header.Error [] [] failed h is (took_none now) (λ rest over. (h.says.0, h.says.1, refl, refl)) quiet
+    (inl told) named
+    (holds_refused last.current (take size from.waiting ++ []) (ap may_pass told)) closes
 
 known_front : (waiting : List ℕ) (has : Option (List ℕ)) (bytes : List ℕ) → option_map (λ xs. waiting ++ xs) has ≡ Some bytes → (more : List ℕ) × (bytes ≡ waiting ++ more) × (has ≡ Some more)
 known_front waiting None bytes is = absurd (cc)
 known_front waiting (Some more) bytes is = let same : waiting ++ more ≡ bytes = cc in (more, sym same, refl)
 
-pub too_long_read : (old new : Clerk) (from : Arriving) (p r s u : SinkState) → HasNone 0x0A from.waiting → length from.waiting ≡ room_size → TellsLoss old new p r s u
+pub too_long_read : (old new : Clerk) (from : Arriving) (p r s u : SinkState) → HasNone 0x0A from.waiting → length from.waiting ≡ room_size → TellsLoss unknown old new p r s u
     → RecordsEnd shape.Sized at_line old new from from p r s u
 too_long_read old new from p r s u clean long loss =
-    loss_said at_line old old new from from p p r s s u (quiet_none old p s) (took_none from) loss
+    loss_said unknown at_line old old new from from p p r s s u (quiet_none old p s) (took_none from) loss
     (λ rest known l.
     let x = known_front from.waiting from.to_come rest known in
-    inr (l, inr (record { first = from.waiting; rest = x.0; split = x.1; long = long; clean = clean })))
+    inr (inl (l, inr (record { first = from.waiting; rest = x.0; split = x.1; long = long; clean = clean }))))
 
-pub loss_told : (old last new : Clerk) (p q r s t u : SinkState) (passed : Bool) → Quiet old last p q s t → last.current.reading.answer ≡ Some answer.NoLength → HasNoKey last.current.reading.key
-    → Closes last new q r t u passed → TellsLoss old new p r s u
-loss_told old last new p q r s t u passed quiet is no_key closes =
+loss_come : (value : Value) (a : Answer) (r : Reading) → IsLoss value a → r.answer ≡ Some a → HasCome r value
+loss_come none a r is told = absurd is
+loss_come (plain bytes) a r is told = absurd is
+loss_come (text_of form mark text) a r is told = absurd is
+loss_come (cut_at at total) a r is told = absurd is
+loss_come unknown a r is told = told ∙ ap (λ b. Some b) is
+loss_come parted a r is told = told ∙ ap (λ b. Some b) is
+loss_come failed a r is told = absurd is
+
+pub loss_told : (value : Value) (a : Answer) (old last new : Clerk) (p q r s t u : SinkState) (passed : Bool) → IsLoss value a → Quiet old last p q s t → last.current.reading.answer ≡ Some a
+    → HasNoKey last.current.reading.key → Closes last new q r t u passed → TellsLoss value old new p r s u
+loss_told value a old last new p q r s t u passed loss quiet is no_key closes =
     let entry : Entry = closes.entry in
     let key : HasNoKey entry.key = key_kept last.current.reading.key entry.key entry.answer no_key closes.key in
     record {
       entry = entry;
       says = says_all old last new p q r s t u [] (ended entry ∷ []) quiet.says closes.says;
-      right = subst (λ (t : Terms). IsFor t.rules t.most entry.key.is_lost unknown entry.answer) quiet.keeps (closes.right unknown (inl is));
+      right = subst (λ (t : Terms). IsFor t.rules t.most entry.key.is_lost value entry.answer) quiet.keeps (closes.right value (inl (loss_come value a last.current.reading loss is)));
       no_key = key.none;
       keeps = closes.keeps ∙ quiet.keeps;
     }
@@ -384,9 +414,9 @@ at_end : (has : Option (List ℕ)) (more : List ℕ) → IsAtEnd has → has ≡
 at_end has more ends is = subst IsAtEnd is ends
 
 pub missing_read : (old last new : Clerk) (from mid : Arriving) (p q r s t u : SinkState) (passed over : Bool) → Quiet old last p q s t → Took from mid []
-    → line_end.Missing ≡ line_end_at mid.waiting over → (over ≡ true → IsAtEnd mid.to_come) → TellsLoss last new q r t u → RecordsEnd shape.Sized (at_line_end passed) old new from mid p r s u
+    → line_end.Missing ≡ line_end_at mid.waiting over → (over ≡ true → IsAtEnd mid.to_come) → TellsLoss unknown last new q r t u → RecordsEnd shape.Sized (at_line_end passed) old new from mid p r s u
 missing_read old last new from mid p q r s t u passed over quiet took is ends loss =
-    loss_said (at_line_end passed) old last new from mid p q r s t u quiet took loss
+    loss_said unknown (at_line_end passed) old last new from mid p q r s t u quiet took loss
     (λ rest known l.
     let x = known_front mid.waiting mid.to_come rest known in
     (l, subst HasNoLineEnd (sym x.1) (missing mid.waiting over x.0 is (λ on. at_end mid.to_come x.0 (ends on) x.2))))
@@ -401,7 +431,7 @@ no_bytes (x ∷ xs) is = absurd (omega (arith, is))
 pub end_none : (at : At) (a : Clerk) (room : Arriving) (p s : SinkState) → length room.waiting ≡ 0 → IsAtEnd room.to_come → RecordsEnd shape.Sized at a a room room p p s s
 end_none at a room p s empty ends = (at, records_none shape.Sized at a room p s, inr (record { none = no_bytes room.waiting empty; ends = ends }))
 
-pub too_long_end : (old new : Clerk) (from now : Arriving) (p r s u : SinkState) → now ≡ from → HasNone 0x0A from.waiting → length now.waiting ≡ room_size → TellsLoss old new p r s u
+pub too_long_end : (old new : Clerk) (from now : Arriving) (p r s u : SinkState) → now ≡ from → HasNone 0x0A from.waiting → length now.waiting ≡ room_size → TellsLoss unknown old new p r s u
     → RecordsEnd shape.Sized at_line old new from now p r s u
 too_long_end old new from now p r s u same clean long loss =
     subst (λ a. RecordsEnd shape.Sized at_line old new from a p r s u) (sym same)

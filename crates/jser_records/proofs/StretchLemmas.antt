@@ -1,7 +1,7 @@
 -- A line that is read stretch by stretch.
-use Rattle.std.proofs.Common.{◌≡◌, ◌≢◌, ◌⊎◌, ℕ, ◌+◌, ◌-◌, ◌≤◌, ◌<◌, ◌^◌, ◌==◌, ◌&&◌, ◌||◌, not, Bool, true, false, if◌then◌else◌, List, [], ◌∷◌, ◌++◌, length, take, drop, Option, Some, None, inl, inr, refl, sym, ap, subst, ◌∙◌, arith, append_assoc, append-nil, length-append}
+use Rattle.std.proofs.Common.{◌≡◌, ◌≢◌, ◌⊎◌, ℕ, ◌+◌, ◌-◌, ◌≤◌, ◌<◌, ◌^◌, ◌==◌, ◌&&◌, ◌||◌, not, Bool, true, false, if◌then◌else◌, List, [], ◌∷◌, ◌++◌, length, map, take, drop, Option, Some, None, inl, inr, refl, sym, ap, subst, ◌∙◌, arith, append_assoc, append-nil, length-append}
 use Rattle.std.proofs.lemmas.Bool.{cases_eq, eqb-true, ne_eqb}
-use Rattle.std.proofs.lemmas.List.{drop-append-le, drop_at, length-drop, length-take-le}
+use Rattle.std.proofs.lemmas.List.{drop-append-le, drop_at, length-drop, length-take-le, map-append, take-append-drop}
 use Rattle.std.proofs.lemmas.List.Elements.{All-append, All-cons}
 use Rattle.std.specs.Option.{is_some}
 use Rattle.std.specs.Prelude.{IfSome, slice_index}
@@ -12,6 +12,7 @@ use Rattle.jser_scan.specs.declared.Found.TheVariants as found
 use Rattle.jser_records.specs.declared.answer.Answer.TheVariants as answer
 use Rattle.jser_records.specs.declared.key.Key.{Key}
 use Rattle.jser_records.specs.declared.layout.Lines.{Lines}
+use Rattle.jser_records.specs.declared.layout.Spelling.{Spelling}
 use Rattle.jser_records.specs.declared.lines.Stretch.{Stretch}
 use Rattle.jser_records.specs.declared.lines.Stretch.TheVariants as stretch
 use Rattle.jser_records.specs.declared.parts.Parts.{Parts}
@@ -21,9 +22,9 @@ use Rattle.jser_records.specs.Fields.{AreParts, IsThere, KeyBeside, key_of, part
 use Rattle.jser_records.specs.Keys.{HasLostKey, HasNoKey, IsKeyOf, key_if, key_size, longer_key, most_key}
 use Rattle.jser_records.specs.Readings.{AddsKey, Came, HasCome, HasSpelled, HasStopped, IsCounted, IsOfDigits, Value, text_of, value_in}
 use Rattle.jser_records.specs.Stretches.{InStretch, IsApart, IsIn, IsLate, IsNamed, PieceEnds, value_stretch}
-use Rattle.jser_records.specs.Texts.{behind_mark, blanked, characters_in, mark_in, mark_size, short_mark}
+use Rattle.jser_records.specs.Texts.{behind_mark, blanked, characters_in, mark_in, mark_size, short_mark, without_space}
 use Rattle.jser_records.proofs.FieldLemmas.{first_tab, no_tab, none_in}
-use Rattle.jser_records.proofs.TextLemmas.{characters_size}
+use Rattle.jser_records.proofs.TextLemmas.{begins_so, characters_size, ends_so}
 
 -- ---- what is answered where no more is read
 
@@ -48,8 +49,8 @@ stopped_same old new kept (inr long) = subst HasStopped (sym (subst (λ o. IfSom
 -- ---- the characters of a value, piece after piece
 
 -- more of them were read
-pub record MoreSpelled (form : Form) (text : List ℕ) (old new : Reading) : Type 0 where
-  pub spelled : (mark : ℕ) (before : List ℕ) → IsOfDigits form → length (before ++ text) < 2 ^ 63 → HasSpelled old form mark before → HasSpelled new form mark (before ++ characters_in form text)
+pub record MoreSpelled (written : Spelling) (text : List ℕ) (old new : Reading) : Type 0 where
+  pub spelled : (mark : ℕ) (before : List ℕ) → IsOfDigits written.form → length (before ++ text) < 2 ^ 63 → HasSpelled old written.form mark before → HasSpelled new written.form mark (before ++ characters_in written.copy text)
   pub answered : IfSome old.answer (λ a. new ≡ old)
   pub key : new.key ≡ old.key
 
@@ -86,28 +87,63 @@ mark_most : (a b c : ℕ) (text : List ℕ) → mark_size (a ∷ b ∷ c ∷ tex
 mark_most a b c text =
     if_most (a == 0x5C && b == 0x5C && c == 0x78) 3 (short_mark a b) 3 (omega arith) (if_most ((a == 0x5C || a == 0x30) && b == 0x78) 2 0 3 (omega arith) (omega arith))
 
-text_both : (form : Form) (a b c : ℕ) (text more : List ℕ) → IsApart (a ∷ b ∷ c ∷ text) more
-    → value_in form (a ∷ b ∷ c ∷ (text ++ more))
-    ≡ text_of form (mark_in form (a ∷ b ∷ c ∷ text)) (characters_in form (behind_mark form (a ∷ b ∷ c ∷ text)) ++ characters_in form more)
-text_both form.Binary a b c text more apart = refl
-text_both form.Hex a b c text more apart =
-    ap (λ xs. text_of form.Hex (mark_size (a ∷ b ∷ c ∷ text)) xs)
-    (drop-append-le (mark_size (a ∷ b ∷ c ∷ text)) (a ∷ b ∷ c ∷ text) more (let most = mark_most a b c text in omega (arith, most)))
-text_both form.Base64 a b c text more apart = ap (λ xs. text_of form.Base64 0 xs) (blanked_both (a ∷ b ∷ c ∷ text) more apart)
-text_both form.Base64Url a b c text more apart = ap (λ xs. text_of form.Base64Url 0 xs) (blanked_both (a ∷ b ∷ c ∷ text) more apart)
+behind_both : (form : Form) (a b c : ℕ) (text more : List ℕ) → behind_mark form (a ∷ b ∷ c ∷ (text ++ more)) ≡ behind_mark form (a ∷ b ∷ c ∷ text) ++ more
+behind_both form.Binary a b c text more = refl
+behind_both form.Hex a b c text more = drop-append-le (mark_size (a ∷ b ∷ c ∷ text)) (a ∷ b ∷ c ∷ text) more (let most = mark_most a b c text in omega (arith, most))
+behind_both form.Base64 a b c text more = refl
+behind_both form.Base64Url a b c text more = refl
 
-value_both : (form : Form) (field more : List ℕ) → 3 ≤ length field → IsApart field more
-    → value_in form (field ++ more) ≡ text_of form (mark_in form field) (characters_in form (behind_mark form field) ++ characters_in form more)
-value_both form [] more long apart = absurd (omega (arith, long))
-value_both form (a ∷ []) more long apart = absurd (omega (arith, long))
-value_both form (a ∷ b ∷ []) more long apart = absurd (omega (arith, long))
-value_both form (a ∷ b ∷ c ∷ text) more long apart = text_both form a b c text more apart
+mark_both : (form : Form) (a b c : ℕ) (text more : List ℕ) → mark_in form (a ∷ b ∷ c ∷ (text ++ more)) ≡ mark_in form (a ∷ b ∷ c ∷ text)
+mark_both form.Binary a b c text more = refl
+mark_both form.Hex a b c text more = refl
+mark_both form.Base64 a b c text more = refl
+mark_both form.Base64Url a b c text more = refl
 
-value_alone : (form : Form) (field : List ℕ) → 3 ≤ length field → value_in form field ≡ text_of form (mark_in form field) (characters_in form (behind_mark form field))
-value_alone form [] long = absurd (omega (arith, long))
-value_alone form (a ∷ []) long = absurd (omega (arith, long))
-value_alone form (a ∷ b ∷ []) long = absurd (omega (arith, long))
-value_alone form (a ∷ b ∷ c ∷ text) long = refl
+-- what is behind a mark ends as the text does
+apart_drop : (n : ℕ) (text more : List ℕ) → IsApart text more → IsApart (drop n text) more
+apart_drop n text more apart = λ front rest ends begins.
+    apart (take n text ++ front) rest (sym (take-append-drop n text) ∙ ap (λ xs. take n text ++ xs) ends ∙ sym (append_assoc (take n text) front (0x5C ∷ []))) begins
+
+apart_mark : (form : Form) (text more : List ℕ) → IsApart text more → IsApart (behind_mark form text) more
+apart_mark form.Binary text more apart = apart
+apart_mark form.Hex text more apart = apart_drop (mark_size text) text more apart
+apart_mark form.Base64 text more apart = apart
+apart_mark form.Base64Url text more apart = apart
+
+-- characters of a text are those of its pieces
+apart_spaceless : (xs ys : List ℕ) → IsApart xs ys → IsApart (map without_space xs) (map without_space ys)
+apart_spaceless xs ys apart = λ front rest ends begins.
+    let x = ends_so xs front 0x5C (omega arith) ends in
+    let y = begins_so ys rest 0x6E (omega arith) begins in
+    apart x.front y.0 x.is y.1
+
+characters_both : (copy : Bool) (xs ys : List ℕ) → IsApart xs ys → characters_in copy (xs ++ ys) ≡ characters_in copy xs ++ characters_in copy ys
+characters_both true xs ys apart =
+    ap (λ zs. blanked zs) (map-append without_space xs ys) ∙ blanked_both (map without_space xs) (map without_space ys) (apart_spaceless xs ys apart)
+characters_both false xs ys apart = map-append without_space xs ys
+
+text_both : (written : Spelling) (a b c : ℕ) (text more : List ℕ) → IsApart (a ∷ b ∷ c ∷ text) more
+    → value_in written (a ∷ b ∷ c ∷ (text ++ more))
+    ≡ text_of written.form (mark_in written.form (a ∷ b ∷ c ∷ text)) (characters_in written.copy (behind_mark written.form (a ∷ b ∷ c ∷ text)) ++ characters_in written.copy more)
+text_both written a b c text more apart =
+    ap (λ n. text_of written.form n (characters_in written.copy (behind_mark written.form (a ∷ b ∷ c ∷ (text ++ more))))) (mark_both written.form a b c text more)
+    ∙ ap (λ xs. text_of written.form (mark_in written.form (a ∷ b ∷ c ∷ text)) (characters_in written.copy xs)) (behind_both written.form a b c text more)
+    ∙ ap (λ xs. text_of written.form (mark_in written.form (a ∷ b ∷ c ∷ text)) xs)
+    (characters_both written.copy (behind_mark written.form (a ∷ b ∷ c ∷ text)) more (apart_mark written.form (a ∷ b ∷ c ∷ text) more apart))
+
+value_both : (written : Spelling) (field more : List ℕ) → 3 ≤ length field → IsApart field more
+    → value_in written (field ++ more) ≡ text_of written.form (mark_in written.form field) (characters_in written.copy (behind_mark written.form field) ++ characters_in written.copy more)
+value_both written [] more long apart = absurd (omega (arith, long))
+value_both written (a ∷ []) more long apart = absurd (omega (arith, long))
+value_both written (a ∷ b ∷ []) more long apart = absurd (omega (arith, long))
+value_both written (a ∷ b ∷ c ∷ text) more long apart = text_both written a b c text more apart
+
+value_alone : (written : Spelling) (field : List ℕ) → 3 ≤ length field
+    → value_in written field ≡ text_of written.form (mark_in written.form field) (characters_in written.copy (behind_mark written.form field))
+value_alone written [] long = absurd (omega (arith, long))
+value_alone written (a ∷ []) long = absurd (omega (arith, long))
+value_alone written (a ∷ b ∷ []) long = absurd (omega (arith, long))
+value_alone written (a ∷ b ∷ c ∷ text) long = refl
 
 behind_size : (form : Form) (text : List ℕ) → length (behind_mark form text) ≤ length text
 behind_size form.Binary text = omega arith
@@ -116,19 +152,19 @@ behind_size form.Base64 text = omega arith
 behind_size form.Base64Url text = omega arith
 
 -- more of a value came
-came_more : (form : Form) (field more : List ℕ) (old new : Reading) → IsOfDigits form → length (field ++ more) < 2 ^ 63 → 3 ≤ length field → IsApart field more → MoreSpelled form more old new
-    → Came old (value_in form field) → Came new (value_in form (field ++ more))
-came_more form field more old new digits few long apart m (inr stopped) = inr (stopped_same old new m.answered stopped)
-came_more form field more old new digits few long apart m (inl has) =
-    let before : List ℕ = characters_in form (behind_mark form field) in
+came_more : (written : Spelling) (field more : List ℕ) (old new : Reading) → IsOfDigits written.form → length (field ++ more) < 2 ^ 63 → 3 ≤ length field → IsApart field more → MoreSpelled written more old new
+    → Came old (value_in written field) → Came new (value_in written (field ++ more))
+came_more written field more old new digits few long apart m (inr stopped) = inr (stopped_same old new m.answered stopped)
+came_more written field more old new digits few long apart m (inl has) =
+    let before : List ℕ = characters_in written.copy (behind_mark written.form field) in
     let fewer : length (before ++ more) < 2 ^ 63 =
     let one = length-append before more in
     let two = length-append field more in
-    let chars = characters_size form (behind_mark form field) in
-    let behind = behind_size form field in
+    let chars = characters_size written.copy (behind_mark written.form field) in
+    let behind = behind_size written.form field in
     omega (arith, one, two, chars, behind, few) in
-    inl (subst (λ v. HasCome new v) (sym (value_both form field more long apart))
-    (m.spelled (mark_in form field) before digits fewer (subst (λ v. HasCome old v) (value_alone form field long) has)))
+    inl (subst (λ v. HasCome new v) (sym (value_both written field more long apart))
+    (m.spelled (mark_in written.form field) before digits fewer (subst (λ v. HasCome old v) (value_alone written field long) has)))
 
 pub counted_front : (form : Form) (line more : List ℕ) → IsCounted form (line ++ more) → IsCounted form line
 counted_front form line more counted =
@@ -151,10 +187,10 @@ too_long : (key : Key) (has : Option (List ℕ)) → IsKeyOf key has → most_ke
 too_long key has (inl known) long = let few = known.1 in absurd (omega (arith, few, long))
 too_long key has (inr lost) long = lost.0
 
-part_in : (form : Form) (asked : Option ℕ) (line behind : List ℕ) (parts : Parts) (r : Reading) → IsThere asked line (take parts.from line) (part_of line parts) (drop parts.to line) (key_of line parts)
-    → drop parts.to line ≡ behind → IsKeyOf r.key (key_of line parts) → (IsCounted form line → Came r (value_in form (part_of line parts))) → (HasLostKey r.key → HasStopped r)
-    → IsIn form asked line behind r
-part_in form asked line behind parts r there is kept came stopped = record {
+part_in : (written : Spelling) (asked : Option ℕ) (line behind : List ℕ) (parts : Parts) (r : Reading) → IsThere asked line (take parts.from line) (part_of line parts) (drop parts.to line) (key_of line parts)
+    → drop parts.to line ≡ behind → IsKeyOf r.key (key_of line parts) → (IsCounted written.form line → Came r (value_in written (part_of line parts))) → (HasLostKey r.key → HasStopped r)
+    → IsIn written asked line behind r
+part_in written asked line behind parts r there is kept came stopped = record {
   before = take parts.from line;
   field = part_of line parts;
   named = key_of line parts;
@@ -164,26 +200,26 @@ part_in form asked line behind parts r there is kept came stopped = record {
   stopped = stopped;
 }
 
-pub front_in : (form : Form) (asked : Option ℕ) (line : List ℕ) (parts : Parts) (r : Reading) → AreParts asked line parts → drop parts.to line ≡ [] → most_key < length line
-    → IsKeyOf r.key (key_of line parts) → (IsCounted form line → Came r (value_in form (part_of line parts))) → (HasLostKey r.key → HasStopped r)
-    → InStretch (value_stretch asked) form asked line r
-front_in form None line parts r (inl there) none long kept came stopped = part_in form None line [] parts r there none kept came stopped
-front_in form None line parts r (inr missing) none long kept came stopped = absurd missing.0
-front_in form (Some number) line parts r (inl there) none long kept came stopped = inl (part_in form (Some number) line [] parts r there none kept came stopped)
-front_in form (Some number) line parts r (inr missing) none long kept came stopped =
+pub front_in : (written : Spelling) (asked : Option ℕ) (line : List ℕ) (parts : Parts) (r : Reading) → AreParts asked line parts → drop parts.to line ≡ [] → most_key < length line
+    → IsKeyOf r.key (key_of line parts) → (IsCounted written.form line → Came r (value_in written (part_of line parts))) → (HasLostKey r.key → HasStopped r)
+    → InStretch (value_stretch asked) written asked line r
+front_in written None line parts r (inl there) none long kept came stopped = part_in written None line [] parts r there none kept came stopped
+front_in written None line parts r (inr missing) none long kept came stopped = absurd missing.0
+front_in written (Some number) line parts r (inl there) none long kept came stopped = inl (part_in written (Some number) line [] parts r there none kept came stopped)
+front_in written (Some number) line parts r (inr missing) none long kept came stopped =
     let size : key_size (key_of line parts) ≡ length line = ap key_size missing.2 ∙ if_size line in
     let lost : HasLostKey r.key = too_long r.key (key_of line parts) kept (omega (arith, size, long)) in
     inr (record { first = line; rest = []; split = sym (append-nil line); missing = missing.0; long = long; lost = lost; stopped = stopped lost })
 
-pub front_behind : (form : Form) (asked : Option ℕ) (line : List ℕ) (parts : Parts) (r : Reading) → AreParts asked line parts → 0 < length (drop parts.to line) → IsKeyOf r.key (key_of line parts)
-    → (IsCounted form line → Came r (value_in form (part_of line parts))) → (HasLostKey r.key → HasStopped r) → InStretch stretch.Behind form asked line r
-front_behind form None line parts r (inl there) some kept came stopped = let none = ap length there.is_asked in absurd (omega (arith, some, none))
-front_behind form None line parts r (inr missing) some kept came stopped = absurd missing.0
-front_behind form (Some number) line parts r (inl there) some kept came stopped = elim there.is_field.ends [
+pub front_behind : (written : Spelling) (asked : Option ℕ) (line : List ℕ) (parts : Parts) (r : Reading) → AreParts asked line parts → 0 < length (drop parts.to line) → IsKeyOf r.key (key_of line parts)
+    → (IsCounted written.form line → Came r (value_in written (part_of line parts))) → (HasLostKey r.key → HasStopped r) → InStretch stretch.Behind written asked line r
+front_behind written None line parts r (inl there) some kept came stopped = let none = ap length there.is_asked in absurd (omega (arith, some, none))
+front_behind written None line parts r (inr missing) some kept came stopped = absurd missing.0
+front_behind written (Some number) line parts r (inl there) some kept came stopped = elim there.is_field.ends [
   | inl none ↦ let empty = ap length none in absurd (omega (arith, some, empty))
-  | inr more ↦ inl (more.0, part_in form (Some number) line (0x09 ∷ more.0) parts r there more.1 kept came stopped)
+  | inr more ↦ inl (more.0, part_in written (Some number) line (0x09 ∷ more.0) parts r there more.1 kept came stopped)
 ]
-front_behind form (Some number) line parts r (inr missing) some kept came stopped = let none = ap length missing.3 in absurd (omega (arith, some, none))
+front_behind written (Some number) line parts r (inr missing) some kept came stopped = let none = ap length missing.3 in absurd (omega (arith, some, none))
 
 -- ---- bytes behind them
 
@@ -209,9 +245,9 @@ long_field line before field named (inr (inr alone)) few is long =
     let none = ap length alone.0 in
     omega (arith, size, value, none, long)
 
-in_came : (form : Form) (asked : Option ℕ) (line more rest : List ℕ) (old new : Reading) → MoreSpelled form more old new → room_size ≤ length line + 1 → IsApart line more
-    → (x : IsIn form asked line [] old) → IsCounted form (line ++ (more ++ rest)) → Came new (value_in form (x.field ++ more))
-in_came form asked line more rest old new m long apart x counted = elim x.kept [
+in_came : (written : Spelling) (asked : Option ℕ) (line more rest : List ℕ) (old new : Reading) → MoreSpelled written more old new → room_size ≤ length line + 1 → IsApart line more
+    → (x : IsIn written asked line [] old) → IsCounted written.form (line ++ (more ++ rest)) → Came new (value_in written (x.field ++ more))
+in_came written asked line more rest old new m long apart x counted = elim x.kept [
   | inl known ↦
       let is = x.there.is_field.split in
       let few : length (x.field ++ more) < 2 ^ 63 =
@@ -222,14 +258,14 @@ in_came form asked line more rest old new m long apart x counted = elim x.kept [
       let four = ap length (append-nil x.field) in
       let five = length-append x.field more in
       omega (arith, all, one, two, three, four, five) in
-      came_more form x.field more old new counted.digits few (long_field line x.before x.field x.named x.there.is_key known.1 is long)
-      (apart_behind line x.before x.field more is apart) m (x.came (counted_front form line (more ++ rest) counted))
+      came_more written x.field more old new counted.digits few (long_field line x.before x.field x.named x.there.is_key known.1 is long)
+      (apart_behind line x.before x.field more is apart) m (x.came (counted_front written.form line (more ++ rest) counted))
   | inr lost ↦ inr (stopped_same old new m.answered (x.stopped lost.0))
 ]
 
-pub in_more : (form : Form) (asked : Option ℕ) (line more : List ℕ) (old new : Reading) → HasNone 0x09 more → MoreSpelled form more old new → room_size ≤ length line + 1 → IsApart line more
-    → IsIn form asked line [] old → IsIn form asked (line ++ more) [] new
-in_more form asked line more old new none m long apart x = record {
+pub in_more : (written : Spelling) (asked : Option ℕ) (line more : List ℕ) (old new : Reading) → HasNone 0x09 more → MoreSpelled written more old new → room_size ≤ length line + 1 → IsApart line more
+    → IsIn written asked line [] old → IsIn written asked (line ++ more) [] new
+in_more written asked line more old new none m long apart x = record {
   before = x.before;
   field = x.field ++ more;
   named = x.named;
@@ -246,7 +282,7 @@ in_more form asked line more old new none m long apart x = record {
         is_key = x.there.is_key;
       };
   kept = subst (λ k. IsKeyOf k x.named) (sym m.key) x.kept;
-  came = λ counted. in_came form asked line more [] old new m long apart x (subst (λ xs. IsCounted form (line ++ xs)) (sym (append-nil more)) counted);
+  came = λ counted. in_came written asked line more [] old new m long apart x (subst (λ xs. IsCounted written.form (line ++ xs)) (sym (append-nil more)) counted);
   stopped = λ lost. stopped_same old new m.answered (x.stopped (subst HasLostKey m.key lost));
 }
 
@@ -267,8 +303,8 @@ late_on asked line more old new x lost stopped = record {
   stopped = stopped;
 }
 
-late_same : (form : Form) (asked : Option ℕ) (line more : List ℕ) (old new : Reading) → MoreSpelled form more old new → IsLate asked line old → IsLate asked (line ++ more) new
-late_same form asked line more old new m x = late_on asked line more old new x (subst HasLostKey (sym m.key) x.lost) (stopped_same old new m.answered x.stopped)
+late_same : (written : Spelling) (asked : Option ℕ) (line more : List ℕ) (old new : Reading) → MoreSpelled written more old new → IsLate asked line old → IsLate asked (line ++ more) new
+late_same written asked line more old new m x = late_on asked line more old new x (subst HasLostKey (sym m.key) x.lost) (stopped_same old new m.answered x.stopped)
 
 late_more : (asked : Option ℕ) (line more added : List ℕ) (old mid new : Reading) → mid.key ≡ old.key → ((has : Option (List ℕ)) → IsKeyOf mid.key has → IsKeyOf new.key (longer_key has added))
     → (HasLostKey new.key → HasStopped new) → IsLate asked line old → IsLate asked (line ++ more) new
@@ -316,11 +352,11 @@ behind_begins before rest named is_first old new (inr (inr alone)) is kept adds 
   kept = behind_none rest is_first old new is (subst (λ o. IsKeyOf old o) alone.2 kept) adds;
 }
 
-in_behind : (form : Form) (number : ℕ) (line value rest : List ℕ) (is_first : Bool) (old mid new : Reading) → HasNone 0x09 value → is_first ≡ not mid.key.is_there
-    → ((has : Option (List ℕ)) → IsKeyOf mid.key has → IsKeyOf new.key (longer_key has (drop (if is_first then 1 else 0) (0x09 ∷ rest)))) → MoreSpelled form value old mid
-    → ((v : Value) → Came mid v → Came new v) → (HasLostKey new.key → HasStopped new) → room_size ≤ length line + 1 → IsApart line value → IsIn form (Some number) line [] old
-    → IsIn form (Some number) (line ++ (value ++ (0x09 ∷ rest))) (0x09 ∷ rest) new
-in_behind form number line value rest is_first old mid new none is adds m more stopped long apart x =
+in_behind : (written : Spelling) (number : ℕ) (line value rest : List ℕ) (is_first : Bool) (old mid new : Reading) → HasNone 0x09 value → is_first ≡ not mid.key.is_there
+    → ((has : Option (List ℕ)) → IsKeyOf mid.key has → IsKeyOf new.key (longer_key has (drop (if is_first then 1 else 0) (0x09 ∷ rest)))) → MoreSpelled written value old mid
+    → ((v : Value) → Came mid v → Came new v) → (HasLostKey new.key → HasStopped new) → room_size ≤ length line + 1 → IsApart line value → IsIn written (Some number) line [] old
+    → IsIn written (Some number) (line ++ (value ++ (0x09 ∷ rest))) (0x09 ∷ rest) new
+in_behind written number line value rest is_first old mid new none is adds m more stopped long apart x =
     let y = behind_begins x.before rest x.named is_first mid.key new.key x.there.is_key is (subst (λ k. IsKeyOf k x.named) (sym m.key) x.kept) adds in
     record {
       before = x.before;
@@ -341,17 +377,17 @@ in_behind form number line value rest is_first old mid new none is adds m more s
             is_key = y.is_key;
           };
       kept = y.kept;
-      came = λ counted. more (value_in form (x.field ++ value)) (in_came form (Some number) line value (0x09 ∷ rest) old mid m long apart x counted);
+      came = λ counted. more (value_in written (x.field ++ value)) (in_came written (Some number) line value (0x09 ∷ rest) old mid m long apart x counted);
       stopped = stopped;
     }
 
 -- the value ends in these bytes
-pub value_ended : (form : Form) (number : ℕ) (line text behind : List ℕ) (at : ℕ) (is_first : Bool) (old mid new : Reading) → IsBefore 0x09 text at → behind ≡ drop at text
-    → MoreSpelled form (take at text) old mid → is_first ≡ not mid.key.is_there
+pub value_ended : (written : Spelling) (number : ℕ) (line text behind : List ℕ) (at : ℕ) (is_first : Bool) (old mid new : Reading) → IsBefore 0x09 text at → behind ≡ drop at text
+    → MoreSpelled written (take at text) old mid → is_first ≡ not mid.key.is_there
     → (0 < length behind → (has : Option (List ℕ)) → IsKeyOf mid.key has → IsKeyOf new.key (longer_key has (drop (if is_first then 1 else 0) behind)))
     → ((v : Value) → Came mid v → Came new v) → (0 < length behind → HasLostKey new.key → HasStopped new) → room_size ≤ length line + 1 → IsApart line text
-    → InStretch stretch.Value form (Some number) line old → InStretch stretch.Behind form (Some number) (line ++ text) new
-value_ended form number line text behind at is_first old mid new b is m first adds more stopped long apart was =
+    → InStretch stretch.Value written (Some number) line old → InStretch stretch.Behind written (Some number) (line ++ text) new
+value_ended written number line text behind at is_first old mid new b is m first adds more stopped long apart was =
     let few : length (take at text) ≡ at = let i = b.inside in length-take-le at text (omega (arith, i)) in
     let tab : behind ≡ 0x09 ∷ b.rest = is ∙ ap (λ xs. drop at xs) b.split ∙ drop_at (take at text) (0x09 ∷ b.rest) at few in
     let some : 0 < length behind = let size = ap length tab in omega (arith, size) in
@@ -361,18 +397,18 @@ value_ended form number line text behind at is_first old mid new b is m first ad
     elim was [
       | inl x ↦ inl (
         b.rest,
-        subst (λ xs. IsIn form (Some number) xs (0x09 ∷ b.rest) new) new_line
-            (in_behind form number line (take at text) b.rest is_first old mid new b.none first added m more (stopped some) long
+        subst (λ xs. IsIn written (Some number) xs (0x09 ∷ b.rest) new) new_line
+            (in_behind written number line (take at text) b.rest is_first old mid new b.none first added m more (stopped some) long
             (apart_front line (take at text) (0x09 ∷ b.rest) text b.split apart) x),
       )
       | inr late ↦ inr (late_more (Some number) line text (drop (if is_first then 1 else 0) (0x09 ∷ b.rest)) old mid new m.key added (stopped some) late)
     ]
 
 -- it does not end in them
-pub value_more : (form : Form) (number : ℕ) (line text : List ℕ) (old new : Reading) → HasNone 0x09 text → MoreSpelled form text old new → room_size ≤ length line + 1 → IsApart line text
-    → InStretch stretch.Value form (Some number) line old → InStretch stretch.Value form (Some number) (line ++ text) new
-value_more form number line text old new none m long apart (inl x) = inl (in_more form (Some number) line text old new none m long apart x)
-value_more form number line text old new none m long apart (inr late) = inr (late_same form (Some number) line text old new m late)
+pub value_more : (written : Spelling) (number : ℕ) (line text : List ℕ) (old new : Reading) → HasNone 0x09 text → MoreSpelled written text old new → room_size ≤ length line + 1 → IsApart line text
+    → InStretch stretch.Value written (Some number) line old → InStretch stretch.Value written (Some number) (line ++ text) new
+value_more written number line text old new none m long apart (inl x) = inl (in_more written (Some number) line text old new none m long apart x)
+value_more written number line text old new none m long apart (inr late) = inr (late_same written (Some number) line text old new m late)
 
 -- more came behind a value
 key_more : (before rest more : List ℕ) (named : Option (List ℕ)) → KeyBeside before (0x09 ∷ rest) named → KeyBeside before (0x09 ∷ (rest ++ more)) (longer_key named more)
@@ -381,10 +417,10 @@ key_more before rest more named (inl key) =
 key_more before rest more named (inr (inl first)) = inr (inl (first.0 ++ more, first.1, ap (λ xs. xs ++ more) first.2, ap (λ o. longer_key o more) first.3))
 key_more before rest more named (inr (inr alone)) = let none = ap length alone.1 in absurd (omega (arith, none))
 
-in_behind_more : (form : Form) (number : ℕ) (line rest more : List ℕ) (old new : Reading) → ((has : Option (List ℕ)) → IsKeyOf old.key has → IsKeyOf new.key (longer_key has more))
-    → ((v : Value) → Came old v → Came new v) → (HasLostKey new.key → HasStopped new) → IsIn form (Some number) line (0x09 ∷ rest) old
-    → IsIn form (Some number) (line ++ more) (0x09 ∷ (rest ++ more)) new
-in_behind_more form number line rest more old new adds goes stopped x = record {
+in_behind_more : (written : Spelling) (number : ℕ) (line rest more : List ℕ) (old new : Reading) → ((has : Option (List ℕ)) → IsKeyOf old.key has → IsKeyOf new.key (longer_key has more))
+    → ((v : Value) → Came old v → Came new v) → (HasLostKey new.key → HasStopped new) → IsIn written (Some number) line (0x09 ∷ rest) old
+    → IsIn written (Some number) (line ++ more) (0x09 ∷ (rest ++ more)) new
+in_behind_more written number line rest more old new adds goes stopped x = record {
   before = x.before;
   field = x.field;
   named = longer_key x.named more;
@@ -403,15 +439,15 @@ in_behind_more form number line rest more old new adds goes stopped x = record {
         is_key = key_more x.before rest more x.named x.there.is_key;
       };
   kept = adds x.named x.kept;
-  came = λ counted. goes (value_in form x.field) (x.came (counted_front form line more counted));
+  came = λ counted. goes (value_in written x.field) (x.came (counted_front written.form line more counted));
   stopped = stopped;
 }
 
-pub behind_more : (form : Form) (asked : Option ℕ) (line more : List ℕ) (old new : Reading) → ((has : Option (List ℕ)) → IsKeyOf old.key has → IsKeyOf new.key (longer_key has more))
-    → ((v : Value) → Came old v → Came new v) → (HasLostKey new.key → HasStopped new) → InStretch stretch.Behind form asked line old → InStretch stretch.Behind form asked (line ++ more) new
-behind_more form None line more old new adds goes stopped was = absurd was
-behind_more form (Some number) line more old new adds goes stopped (inl x) = inl (x.0 ++ more, in_behind_more form number line x.0 more old new adds goes stopped x.1)
-behind_more form (Some number) line more old new adds goes stopped (inr late) = inr (late_more (Some number) line more more old old new refl adds stopped late)
+pub behind_more : (written : Spelling) (asked : Option ℕ) (line more : List ℕ) (old new : Reading) → ((has : Option (List ℕ)) → IsKeyOf old.key has → IsKeyOf new.key (longer_key has more))
+    → ((v : Value) → Came old v → Came new v) → (HasLostKey new.key → HasStopped new) → InStretch stretch.Behind written asked line old → InStretch stretch.Behind written asked (line ++ more) new
+behind_more written None line more old new adds goes stopped was = absurd was
+behind_more written (Some number) line more old new adds goes stopped (inl x) = inl (x.0 ++ more, in_behind_more written number line x.0 more old new adds goes stopped x.1)
+behind_more written (Some number) line more old new adds goes stopped (inr late) = inr (late_more (Some number) line more more old old new refl adds stopped late)
 
 -- ---- one more field, where the value is the last one
 
@@ -438,8 +474,8 @@ last_tab text (Some at) h is = elim (last_of text) [
   | inr x ↦ x
 ]
 
-pub last_lost : (form : Form) (line text : List ℕ) (at : Option ℕ) (new : Reading) → IsFirstByte (is_byte 0x09) text at → is_some at ≡ true → room_size ≤ length line + 1 → HasLostKey new.key → HasStopped new → IsIn form None (line ++ text) [] new
-last_lost form line text at new h is long lost stopped =
+pub last_lost : (written : Spelling) (line text : List ℕ) (at : Option ℕ) (new : Reading) → IsFirstByte (is_byte 0x09) text at → is_some at ≡ true → room_size ≤ length line + 1 → HasLostKey new.key → HasStopped new → IsIn written None (line ++ text) [] new
+last_lost written line text at new h is long lost stopped =
     let x = last_tab text at h is in
     let front : List ℕ = line ++ x.front in
     let before : line ++ (x.front ++ (0x09 ∷ [])) ≡ front ++ (0x09 ∷ []) = sym (append_assoc line x.front (0x09 ∷ [])) in
@@ -468,37 +504,37 @@ last_lost form line text at new h is long lost stopped =
       stopped = λ is_lost. stopped;
     }
 
-pub last_more : (form : Form) (line text : List ℕ) (at : Option ℕ) (old new : Reading) → ((h : at ≡ None) → HasNone 0x09 text) → is_some at ≡ false → MoreSpelled form text old new
-    → room_size ≤ length line + 1 → IsApart line text → IsIn form None line [] old → IsIn form None (line ++ text) [] new
-last_more form line text None old new none is m long apart x = in_more form None line text old new (none refl) m long apart x
-last_more form line text (Some at) old new none is m long apart x = absurd (cc)
+pub last_more : (written : Spelling) (line text : List ℕ) (at : Option ℕ) (old new : Reading) → ((h : at ≡ None) → HasNone 0x09 text) → is_some at ≡ false → MoreSpelled written text old new
+    → room_size ≤ length line + 1 → IsApart line text → IsIn written None line [] old → IsIn written None (line ++ text) [] new
+last_more written line text None old new none is m long apart x = in_more written None line text old new (none refl) m long apart x
+last_more written line text (Some at) old new none is m long apart x = absurd (cc)
 
 -- ---- whichever field is asked for
 
-pub last_value_lost : (form : Form) (asked : Option ℕ) (line text : List ℕ) (at : Option ℕ) (old new : Reading) → IsFirstByte (is_byte 0x09) text at → is_some at ≡ true
-    → room_size ≤ length line + 1 → HasLostKey new.key → HasStopped new → InStretch stretch.LastValue form asked line old → InStretch stretch.LastValue form asked (line ++ text) new
-last_value_lost form None line text at old new h is long lost stopped was = last_lost form line text at new h is long lost stopped
-last_value_lost form (Some number) line text at old new h is long lost stopped was = absurd was
+pub last_value_lost : (written : Spelling) (asked : Option ℕ) (line text : List ℕ) (at : Option ℕ) (old new : Reading) → IsFirstByte (is_byte 0x09) text at → is_some at ≡ true
+    → room_size ≤ length line + 1 → HasLostKey new.key → HasStopped new → InStretch stretch.LastValue written asked line old → InStretch stretch.LastValue written asked (line ++ text) new
+last_value_lost written None line text at old new h is long lost stopped was = last_lost written line text at new h is long lost stopped
+last_value_lost written (Some number) line text at old new h is long lost stopped was = absurd was
 
-pub last_value_more : (form : Form) (asked : Option ℕ) (line text : List ℕ) (at : Option ℕ) (old new : Reading) → IsFirstByte (is_byte 0x09) text at → is_some at ≡ false
-    → MoreSpelled form text old new → room_size ≤ length line + 1 → IsApart line text → InStretch stretch.LastValue form asked line old → InStretch stretch.LastValue form asked (line ++ text) new
-last_value_more form None line text at old new h is m long apart was =
-    last_more form line text at old new (λ none. no_tab text (subst (λ o. IsFirstByte (is_byte 0x09) text o) none h)) is m long apart was
-last_value_more form (Some number) line text at old new h is m long apart was = absurd was
+pub last_value_more : (written : Spelling) (asked : Option ℕ) (line text : List ℕ) (at : Option ℕ) (old new : Reading) → IsFirstByte (is_byte 0x09) text at → is_some at ≡ false
+    → MoreSpelled written text old new → room_size ≤ length line + 1 → IsApart line text → InStretch stretch.LastValue written asked line old → InStretch stretch.LastValue written asked (line ++ text) new
+last_value_more written None line text at old new h is m long apart was =
+    last_more written line text at old new (λ none. no_tab text (subst (λ o. IsFirstByte (is_byte 0x09) text o) none h)) is m long apart was
+last_value_more written (Some number) line text at old new h is m long apart was = absurd was
 
-pub value_ended_by : (form : Form) (asked : Option ℕ) (line text behind : List ℕ) (at : ℕ) (is_first : Bool) (old mid new : Reading) → IsFirstByte (is_byte 0x09) text (Some at)
-    → behind ≡ drop at text → MoreSpelled form (take at text) old mid → is_first ≡ not mid.key.is_there
+pub value_ended_by : (written : Spelling) (asked : Option ℕ) (line text behind : List ℕ) (at : ℕ) (is_first : Bool) (old mid new : Reading) → IsFirstByte (is_byte 0x09) text (Some at)
+    → behind ≡ drop at text → MoreSpelled written (take at text) old mid → is_first ≡ not mid.key.is_there
     → (0 < length behind → (has : Option (List ℕ)) → IsKeyOf mid.key has → IsKeyOf new.key (longer_key has (drop (if is_first then 1 else 0) behind)))
     → ((v : Value) → Came mid v → Came new v) → (0 < length behind → HasLostKey new.key → HasStopped new) → room_size ≤ length line + 1 → IsApart line text
-    → InStretch stretch.Value form asked line old → InStretch stretch.Behind form asked (line ++ text) new
-value_ended_by form None line text behind at is_first old mid new h is m first adds more stopped long apart was = absurd was
-value_ended_by form (Some number) line text behind at is_first old mid new h is m first adds more stopped long apart was =
-    value_ended form number line text behind at is_first old mid new (first_tab text at h) is m first adds more stopped long apart was
+    → InStretch stretch.Value written asked line old → InStretch stretch.Behind written asked (line ++ text) new
+value_ended_by written None line text behind at is_first old mid new h is m first adds more stopped long apart was = absurd was
+value_ended_by written (Some number) line text behind at is_first old mid new h is m first adds more stopped long apart was =
+    value_ended written number line text behind at is_first old mid new (first_tab text at h) is m first adds more stopped long apart was
 
-pub value_goes_on : (form : Form) (asked : Option ℕ) (line text : List ℕ) (old new : Reading) → IsFirstByte (is_byte 0x09) text None → MoreSpelled form text old new
-    → room_size ≤ length line + 1 → IsApart line text → InStretch stretch.Value form asked line old → InStretch stretch.Value form asked (line ++ text) new
-value_goes_on form None line text old new h m long apart was = absurd was
-value_goes_on form (Some number) line text old new h m long apart was = value_more form number line text old new (no_tab text h) m long apart was
+pub value_goes_on : (written : Spelling) (asked : Option ℕ) (line text : List ℕ) (old new : Reading) → IsFirstByte (is_byte 0x09) text None → MoreSpelled written text old new
+    → room_size ≤ length line + 1 → IsApart line text → InStretch stretch.Value written asked line old → InStretch stretch.Value written asked (line ++ text) new
+value_goes_on written None line text old new h m long apart was = absurd was
+value_goes_on written (Some number) line text old new h m long apart was = value_more written number line text old new (no_tab text h) m long apart was
 
 -- the bytes of a record were kept
 same_held : (old new : Reading) → (new ≡ old) ⊎ (new ≡ record old { answer = Some (answer.Checked found.OutOfMemory) }) → (new.key ≡ old.key) × ((new ≡ old) ⊎ HasStopped new)
@@ -513,15 +549,15 @@ stopped_held : (old new : Reading) → (new ≡ old) ⊎ HasStopped new → HasS
 stopped_held old new (inl same) stopped = subst HasStopped (sym same) stopped
 stopped_held old new (inr now) stopped = now
 
-in_held : (form : Form) (asked : Option ℕ) (line behind : List ℕ) (old new : Reading) → (new.key ≡ old.key) × ((new ≡ old) ⊎ HasStopped new) → IsIn form asked line behind old
-    → IsIn form asked line behind new
-in_held form asked line behind old new h x = record {
+in_held : (written : Spelling) (asked : Option ℕ) (line behind : List ℕ) (old new : Reading) → (new.key ≡ old.key) × ((new ≡ old) ⊎ HasStopped new) → IsIn written asked line behind old
+    → IsIn written asked line behind new
+in_held written asked line behind old new h x = record {
   before = x.before;
   field = x.field;
   named = x.named;
   there = x.there;
   kept = subst (λ k. IsKeyOf k x.named) (sym h.0) x.kept;
-  came = λ counted. came_held old new (value_in form x.field) h.1 (x.came counted);
+  came = λ counted. came_held old new (value_in written x.field) h.1 (x.came counted);
   stopped = λ lost. stopped_held old new h.1 (x.stopped (subst HasLostKey h.0 lost));
 }
 
@@ -536,31 +572,31 @@ late_held asked line old new h x = record {
   stopped = stopped_held old new h.1 x.stopped;
 }
 
-in_stretch : (s : Stretch) (form : Form) (asked : Option ℕ) (line : List ℕ) (old new : Reading) → (new.key ≡ old.key) × ((new ≡ old) ⊎ HasStopped new) → InStretch s form asked line old
-    → InStretch s form asked line new
-in_stretch stretch.LastValue form None line old new h x = in_held form None line [] old new h x
-in_stretch stretch.LastValue form (Some number) line old new h x = absurd x
-in_stretch stretch.Value form None line old new h x = absurd x
-in_stretch stretch.Value form (Some number) line old new h (inl x) = inl (in_held form (Some number) line [] old new h x)
-in_stretch stretch.Value form (Some number) line old new h (inr late) = inr (late_held (Some number) line old new h late)
-in_stretch stretch.Behind form None line old new h x = absurd x
-in_stretch stretch.Behind form (Some number) line old new h (inl x) = inl (x.0, in_held form (Some number) line (0x09 ∷ x.0) old new h x.1)
-in_stretch stretch.Behind form (Some number) line old new h (inr late) = inr (late_held (Some number) line old new h late)
+in_stretch : (s : Stretch) (written : Spelling) (asked : Option ℕ) (line : List ℕ) (old new : Reading) → (new.key ≡ old.key) × ((new ≡ old) ⊎ HasStopped new) → InStretch s written asked line old
+    → InStretch s written asked line new
+in_stretch stretch.LastValue written None line old new h x = in_held written None line [] old new h x
+in_stretch stretch.LastValue written (Some number) line old new h x = absurd x
+in_stretch stretch.Value written None line old new h x = absurd x
+in_stretch stretch.Value written (Some number) line old new h (inl x) = inl (in_held written (Some number) line [] old new h x)
+in_stretch stretch.Value written (Some number) line old new h (inr late) = inr (late_held (Some number) line old new h late)
+in_stretch stretch.Behind written None line old new h x = absurd x
+in_stretch stretch.Behind written (Some number) line old new h (inl x) = inl (x.0, in_held written (Some number) line (0x09 ∷ x.0) old new h x.1)
+in_stretch stretch.Behind written (Some number) line old new h (inr late) = inr (late_held (Some number) line old new h late)
 
-pub stretch_held : (s : Stretch) (form : Form) (asked : Option ℕ) (line : List ℕ) (old new : Reading)
-    → (new ≡ old) ⊎ (new ≡ record old { answer = Some (answer.Checked found.OutOfMemory) }) → InStretch s form asked line old → InStretch s form asked line new
-stretch_held s form asked line old new kept was = in_stretch s form asked line old new (same_held old new kept) was
+pub stretch_held : (s : Stretch) (written : Spelling) (asked : Option ℕ) (line : List ℕ) (old new : Reading)
+    → (new ≡ old) ⊎ (new ≡ record old { answer = Some (answer.Checked found.OutOfMemory) }) → InStretch s written asked line old → InStretch s written asked line new
+stretch_held s written asked line old new kept was = in_stretch s written asked line old new (same_held old new kept) was
 
-named_held : (form : Form) (asked : Option ℕ) (line : List ℕ) (old new : Reading) → (new.key ≡ old.key) × ((new ≡ old) ⊎ HasStopped new) → IsNamed form asked line old → IsNamed form asked line new
-named_held form asked line old new h x = record {
+named_held : (written : Spelling) (asked : Option ℕ) (line : List ℕ) (old new : Reading) → (new.key ≡ old.key) × ((new ≡ old) ⊎ HasStopped new) → IsNamed written asked line old → IsNamed written asked line new
+named_held written asked line old new h x = record {
   field = x.field;
   named = x.named;
   is_value = x.is_value;
   kept = subst (λ k. IsKeyOf k x.named) (sym h.0) x.kept;
-  came = λ counted. came_held old new (value_in form x.field) h.1 (x.came counted);
+  came = λ counted. came_held old new (value_in written x.field) h.1 (x.came counted);
   stopped = λ lost. stopped_held old new h.1 (x.stopped (subst HasLostKey h.0 lost));
 }
 
 pub piece_held : (lines : Lines) (line piece : List ℕ) (old new : Reading) → (new ≡ old) ⊎ (new ≡ record old { answer = Some (answer.Checked found.OutOfMemory) })
     → PieceEnds lines line piece old → PieceEnds lines line piece new
-piece_held lines line piece old new kept x = record { bare = x.bare; is_bare = x.is_bare; named = named_held lines.form lines.field (line ++ x.bare) old new (same_held old new kept) x.named }
+piece_held lines line piece old new kept x = record { bare = x.bare; is_bare = x.is_bare; named = named_held lines.spelling lines.field (line ++ x.bare) old new (same_held old new kept) x.named }

@@ -1,13 +1,14 @@
 -- The text of a value.
-use Rattle.std.proofs.Common.{◌≡◌, ℕ, suc, ◌+◌, ◌^◌, ◌<◌, ◌≤◌, ◌==◌, ◌&&◌, length, take, drop, Bool, true, false, if◌then◌else◌, List, [], ◌∷◌, ◌++◌, Option, Some, None, refl, sym, ap, ◌∙◌, arith}
+use Rattle.std.proofs.Common.{◌≡◌, ℕ, suc, ◌+◌, ◌^◌, ◌<◌, ◌≤◌, ◌==◌, ◌&&◌, length, map, set, take, drop, get_or, Bool, true, false, if◌then◌else◌, List, [], ◌∷◌, ◌++◌, Option, Some, None, refl, sym, ap, ◌∙◌, arith}
 use Rattle.std.proofs.lemmas.Bool.{ne_eqb, eq-eqb}
-use Rattle.std.proofs.lemmas.List.{take-append-drop, length-append, length-drop}
+use Rattle.std.proofs.lemmas.List.{take-append-drop, length-append, length-drop, length-map}
+use Rattle.std.proofs.lemmas.Grind.{get_or_default_zero}
+use Rattle.std.proofs.lemmas.List.Edits.{map_over_more}
 use Rattle.std.specs.Option.{is_some}
 use Rattle.std.specs.Prelude.{slice_index}
 use Rattle.memchr.specs.Find.{IsFirstByte, is_byte}
-use Rattle.jser_inputs.specs.declared.Form.{Form}
-use Rattle.jser_inputs.specs.declared.Form.TheVariants as form
-use Rattle.jser_records.specs.Texts.{blanked, characters_in}
+use Rattle.jser_inputs.specs.Digits.{is_space}
+use Rattle.jser_records.specs.Texts.{blanked, characters_in, without_space}
 
 -- a text without a backslash
 plain : (text : List ℕ) → ((k : ℕ) → k < length text → slice_index text k ≡ 0x5C → ⊥) → blanked text ≡ text
@@ -41,15 +42,44 @@ blanked_size [] = refl
 blanked_size (c ∷ []) = refl
 blanked_size (c ∷ d ∷ text) = size_if (c == 0x5C && d == 0x6E) c d text (blanked_size text) (blanked_size (d ∷ text))
 
-pub characters_size : (form : Form) (text : List ℕ) → length (characters_in form text) ≡ length text
-characters_size form.Binary text = refl
-characters_size form.Hex text = refl
-characters_size form.Base64 text = blanked_size text
-characters_size form.Base64Url text = blanked_size text
+pub characters_size : (copy : Bool) (text : List ℕ) → length (characters_in copy text) ≡ length text
+characters_size true text = blanked_size (map without_space text) ∙ length-map text without_space
+characters_size false text = length-map text without_space
 
-pub few_marked : (form : Form) (before text marked : List ℕ) → marked ≡ characters_in form text → length (before ++ text) < 2 ^ 63 → length (before ++ marked) < 2 ^ 63
-few_marked form before text marked is few =
-    let same : length marked ≡ length text = ap length is ∙ characters_size form text in
+pub few_marked : (copy : Bool) (before text marked : List ℕ) → marked ≡ characters_in copy text → length (before ++ text) < 2 ^ 63 → length (before ++ marked) < 2 ^ 63
+few_marked copy before text marked is few =
+    let same : length marked ≡ length text = ap length is ∙ characters_size copy text in
     let one : length (before ++ text) ≡ length before + length text = length-append before text in
     let two : length (before ++ marked) ≡ length before + length marked = length-append before marked in
     omega (arith, same, one, two, few)
+
+-- ---- one character after another becomes a NUL where it is white space
+
+pub spaceless_on : (old text : List ℕ) (i y : ℕ) → i < length old → i < length text → text ≡ map without_space (take i old) ++ drop i old → y ≡ without_space (get_or text i 0)
+    → set text i y ≡ map without_space (take (i + 1) old) ++ drop (i + 1) old
+spaceless_on old text i y inside within so_far made =
+    ap (λ z. set text i z) made
+    ∙ map_over_more without_space old text i (get_or text i 0) inside so_far (sym (get_or_default_zero text i (get_or text i 0) within))
+
+-- a character that becomes none, or stays, is not another one
+stays : (b : Bool) (c d : ℕ) → 0 < d → (if b then 0x00 else c) ≡ d → c ≡ d
+stays true c d some is = absurd (omega (arith, some, is))
+stays false c d some is = is
+
+space_stays : (c d : ℕ) → 0 < d → without_space c ≡ d → c ≡ d
+space_stays c d some is = stays (is_space c) c d some is
+
+pub record EndsSo (text : List ℕ) (byte : ℕ) : Type 0 where
+  pub front : List ℕ
+  pub is : text ≡ front ++ (byte ∷ [])
+
+pub ends_so : (text front : List ℕ) (d : ℕ) → 0 < d → map without_space text ≡ front ++ (d ∷ []) → EndsSo text d
+ends_so [] front d some is = let size = length-append front (d ∷ []) in let none = ap length is in absurd (omega (arith, size, none))
+ends_so (c ∷ []) [] d some is = record { front = []; is = ap (λ b. b ∷ []) (space_stays c d some (ap (λ xs. get_or xs 0 0) is)) }
+ends_so (c ∷ []) (e ∷ front) d some is = let size = length-append front (d ∷ []) in let one = ap length is in absurd (omega (arith, size, one))
+ends_so (c ∷ e ∷ text) [] d some is = let two = ap length is in absurd (omega (arith, two))
+ends_so (c ∷ e ∷ text) (f ∷ front) d some is = let x = ends_so (e ∷ text) front d some (ap (λ xs. drop 1 xs) is) in record { front = c ∷ x.front; is = ap (λ xs. c ∷ xs) x.is }
+
+pub begins_so : (text rest : List ℕ) (d : ℕ) → 0 < d → map without_space text ≡ d ∷ rest → (more : List ℕ) × (text ≡ d ∷ more)
+begins_so [] rest d some is = let none = ap length is in absurd (omega (arith, none))
+begins_so (c ∷ text) rest d some is = (text, ap (λ b. b ∷ text) (space_stays c d some (ap (λ xs. get_or xs 0 0) is)))

@@ -7,7 +7,7 @@ use Rattle.jser_records.specs.declared.current.Record.{Record}
 use Rattle.jser_records.specs.declared.reading.Reading.{Reading}
 use Rattle.jser_records.specs.Arriving.{Arriving, IsOver, Took}
 use Rattle.jser_records.specs.Held.{HoldsMore, Terms}
-use Rattle.jser_records.specs.Readings.{Came, Counts, HasPlain, IsFor, Value, none, plain, text_of, cut_at, unknown}
+use Rattle.jser_records.specs.Readings.{Came, Counts, HasPlain, IsFor, Value, none, plain, text_of, cut_at, unknown, parted, failed}
 use Rattle.jser_records.specs.Told.{Entry, HandsOn}
 
 abbrev pub null_length : ℕ
@@ -33,6 +33,8 @@ IsFrame frame none rest = frame ≡ big_bytes 4 null_length
 IsFrame frame (plain bytes) rest = (frame ≡ big_bytes 4 (length bytes) ++ bytes) × (length bytes < null_length)
 IsFrame frame (text_of form mark text) rest = ⊥
 IsFrame frame unknown rest = ⊥
+IsFrame frame parted rest = ⊥
+IsFrame frame failed rest = ⊥
 IsFrame frame (cut_at at total) rest = (IsCutLength frame at total ⊎ IsCutFrame frame at total) × (rest ≡ [])
 
 -- The record of the frame at the front of these bytes: its answer is right of its value, it has no KEY, and the frame is what is
@@ -94,6 +96,8 @@ IsBehind count none bytes now = (count ≡ null_length) × (bytes ≡ [])
 IsBehind count (plain value) bytes now = (count < null_length) × (value ≡ bytes) × (length bytes ≡ count)
 IsBehind count (text_of form mark text) bytes now = ⊥
 IsBehind count unknown bytes now = ⊥
+IsBehind count parted bytes now = ⊥
+IsBehind count failed bytes now = ⊥
 IsBehind count (cut_at at total) bytes now = (count < null_length) × (length bytes ≡ at) × (at < count) × (total ≡ count) × IsOver now
 
 pub record TakesValue (count : ℕ) (from now : Arriving) (old new : Record) : Type 0 where

@@ -1,8 +1,9 @@
 -- The line before the bytes of a record: it ends in their number, in decimal, or in -1 where there is no value. What is before that
 -- is the KEY.
-use Rattle.std.specs.Prelude.{ℕ, ◌≡◌, ◌⊎◌, ◌+◌, ◌-◌, ◌*◌, ◌≤◌, ◌<◌, ◌==◌, ◌&&◌, ◌||◌, Bool, true, false, List, [], ◌∷◌, ◌++◌, All, length, take}
+use Rattle.std.specs.Prelude.{ℕ, ◌≡◌, ◌⊎◌, ◌+◌, ◌-◌, ◌*◌, ◌≤◌, ◌<◌, ◌==◌, ◌&&◌, ◌||◌, nat_le, Bool, true, false, List, [], ◌∷◌, ◌++◌, All, length, take}
 use Rattle.jser_records.specs.declared.header.Header.{Header}
 use Rattle.jser_records.specs.declared.header.Header.TheVariants as header
+use Rattle.jser_records.specs.LineEnds.{has_line_end}
 
 abbrev pub IsDigit : ℕ → Type 0
 IsDigit c = (0x30 ≤ c) × (c ≤ 0x39)
@@ -72,9 +73,31 @@ abbrev pub is_reply : List ℕ → Bool
 is_reply [] = true
 is_reply (c ∷ line) = is_mark c || is_end (c ∷ line)
 
+-- A server's error is `-` and its name, in capital letters. Nothing is behind it, whatever it ends in.
+abbrev pub is_error : List ℕ → Bool
+is_error [] = false
+is_error (a ∷ []) = false
+is_error (a ∷ b ∷ line) = a == 0x2D && (nat_le 0x41 b && nat_le b 0x5A)
+
+-- a line that can be a header: no reader of lines may end one in it, and it is no error
+pub record IsHead (line : List ℕ) : Type 0 where
+  pub whole : has_line_end line ≡ false
+  pub no_error : is_error line ≡ false
+
+-- what is told of the length in a line is right of it
+abbrev pub SaysHeader : (line : List ℕ) → Header → Type 0
+SaysHeader line header.Other = SaysNone line × (is_reply line ≡ true)
+SaysHeader line header.LineEnd = ⊥
+SaysHeader line header.Error = ⊥
+SaysHeader line (header.Bytes key count) = SaysLength line (take key line) count
+SaysHeader line (header.Null key) = SaysNull line (take key line)
+SaysHeader line header.NoLength = SaysNone line × (is_reply line ≡ false)
+
 -- what is told of a line is right of it
 abbrev pub IsHeader : (line : List ℕ) → Header → Type 0
-IsHeader line header.Other = SaysNone line × (is_reply line ≡ true)
-IsHeader line (header.Bytes key count) = SaysLength line (take key line) count
-IsHeader line (header.Null key) = SaysNull line (take key line)
-IsHeader line header.NoLength = SaysNone line × (is_reply line ≡ false)
+IsHeader line header.Other = IsHead line × SaysHeader line header.Other
+IsHeader line header.LineEnd = has_line_end line ≡ true
+IsHeader line header.Error = (has_line_end line ≡ false) × (is_error line ≡ true)
+IsHeader line (header.Bytes key count) = IsHead line × SaysHeader line (header.Bytes key count)
+IsHeader line (header.Null key) = IsHead line × SaysHeader line (header.Null key)
+IsHeader line header.NoLength = IsHead line × SaysHeader line header.NoLength

@@ -25,7 +25,9 @@ passes (answer.Checked result) = is_accepted result
 passes answer.Null = true
 passes (answer.Longer most) = false
 passes answer.LongKey = false
+passes answer.LineEndInKey = false
 passes (answer.Cut at total) = false
+passes answer.ErrorReply = false
 passes answer.NoLength = false
 
 -- what is answered so far lets it pass

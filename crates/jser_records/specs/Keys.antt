@@ -1,9 +1,10 @@
 -- The KEY of a record.
-use Rattle.std.specs.Prelude.{ℕ, ◌≡◌, ◌⊎◌, ◌≤◌, ◌<◌, ◌+◌, true, false, List, [], ◌∷◌, ◌++◌, length, Option, Some, None}
+use Rattle.std.specs.Prelude.{ℕ, ◌≡◌, ◌⊎◌, ◌≤◌, ◌<◌, ◌+◌, ◌&&◌, Bool, true, false, List, [], ◌∷◌, ◌++◌, length, Option, Some, None}
 use Rattle.jser_scan.specs.declared.Found.TheVariants as found
 use Rattle.jser_records.specs.declared.answer.Answer.{Answer}
 use Rattle.jser_records.specs.declared.answer.Answer.TheVariants as answer
 use Rattle.jser_records.specs.declared.key.Key.{Key}
+use Rattle.jser_records.specs.LineEnds.{has_line_end}
 
 -- how many bytes a KEY has at most
 abbrev pub most_key : ℕ
@@ -39,7 +40,16 @@ abbrev pub key_if : List ℕ → Option (List ℕ)
 key_if [] = None
 key_if (c ∷ bytes) = Some (c ∷ bytes)
 
+-- a reader of lines may end one in it
+abbrev pub ends_in : Option (List ℕ) → Bool
+ends_in None = false
+ends_in (Some bytes) = has_line_end bytes
+
 -- ---- as it is read
+
+-- so it is of a KEY that is kept
+abbrev pub ends_lines : Key → Bool
+ends_lines key = key.is_there && has_line_end key.bytes.items
 
 -- a KEY with bytes behind it
 abbrev pub longer_key : Option (List ℕ) → List ℕ → Option (List ℕ)

@@ -6,6 +6,7 @@ pub mod Held
 pub mod Inputs
 pub mod Judged
 pub mod Keys
+pub mod LineEnds
 pub mod Lines
 pub mod Readings
 pub mod Records

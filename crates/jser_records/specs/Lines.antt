@@ -1,7 +1,9 @@
 -- Records that are lines.
-use Rattle.std.specs.Prelude.{ℕ, ◌≡◌, ◌⊎◌, ◌+◌, ◌≤◌, ◌<◌, if◌then◌else◌, List, [], ◌∷◌, ◌++◌, length, Option, Some, None}
+use Rattle.std.specs.Prelude.{ℕ, ◌≡◌, ◌⊎◌, ◌+◌, ◌≤◌, ◌<◌, ◌&&◌, not, Bool, if◌then◌else◌, List, [], ◌∷◌, ◌++◌, length, Option, Some, None}
+use Rattle.jser_prim.specs.Outgoing.{SinkState, sink_state}
 use Rattle.jser_scan.specs.declared.Found.TheVariants as found
 use Rattle.jser_records.specs.declared.answer.Answer.TheVariants as answer
+use Rattle.jser_records.specs.declared.clerk.Clerk.{Clerk}
 use Rattle.jser_records.specs.declared.layout.Lines.{Lines}
 use Rattle.jser_records.specs.declared.lines.Stretch.{Stretch}
 use Rattle.jser_records.specs.declared.current.Record.{Record}
@@ -9,14 +11,22 @@ use Rattle.jser_records.specs.declared.reading.Reading.{Reading}
 use Rattle.jser_records.specs.Arriving.{Arriving, HasNone, IsOver, Took, room_size}
 use Rattle.jser_records.specs.Fields.{IsBare, IsValue}
 use Rattle.jser_records.specs.Held.{Holds, HoldsMore, Terms}
-use Rattle.jser_records.specs.Keys.{HasLostKey, HasNoKey, IsKeyOf}
-use Rattle.jser_records.specs.Readings.{Came, HasStopped, IsCounted, IsFor, IsReady, Value, value_in}
+use Rattle.jser_records.specs.Keys.{HasLostKey, HasNoKey, IsKeyOf, ends_in, ends_lines}
+use Rattle.jser_records.specs.Readings.{Came, HasStopped, IsCounted, IsFor, IsReady, Value, parted, value_in}
 use Rattle.jser_records.specs.Stretches.{IsOn, LineNamed}
-use Rattle.jser_records.specs.Told.{Entry, HandsOn, KeyTold}
+use Rattle.jser_records.specs.Told.{Closes, Entry, HandsOn, KeyTold}
 
 -- the byte that ends a line
 abbrev pub end_of : Lines → ℕ
 end_of lines = if lines.zero then 0x00 else 0x0A
+
+-- a reader of lines may end one in this KEY of a line, unless a NUL ends lines
+abbrev pub parts_line : Lines → Option (List ℕ) → Bool
+parts_line lines key = not lines.zero && ends_in key
+
+-- the value of a line whose KEY and field are these
+abbrev pub value_of : Lines → (key : Option (List ℕ)) → (field : List ℕ) → Value
+value_of lines key field = if parts_line lines key then parted else value_in lines.spelling field
 
 -- This is the value of a line, which is given without its end, and its KEY.
 pub record IsOfLine (lines : Lines) (text : List ℕ) (value : Value) (key : Option (List ℕ)) : Type 0 where
@@ -24,7 +34,7 @@ pub record IsOfLine (lines : Lines) (text : List ℕ) (value : Value) (key : Opt
   pub is_bare : IsBare lines text bare
   pub field : List ℕ
   pub is_field : IsValue lines.field bare field key
-  pub is_value : value ≡ value_in lines.form field
+  pub is_value : value ≡ value_of lines key field
 
 -- Its KEY is told, and its answer is right of its value, if that is a text of digits. Where the KEY is too long, that is the answer.
 pub record AnswersLine (lines : Lines) (terms : Terms) (text : List ℕ) (entry : Entry) : Type 0 where
@@ -33,7 +43,7 @@ pub record AnswersLine (lines : Lines) (terms : Terms) (text : List ℕ) (entry 
   pub is : IsOfLine lines text value key
   pub key_told : KeyTold entry key
   pub lost_told : HasLostKey entry.key → (entry.answer ≡ answer.LongKey) ⊎ (entry.answer ≡ answer.Checked found.OutOfMemory)
-  pub right : IsCounted lines.form text → IsFor terms.rules terms.most entry.key.is_lost value entry.answer
+  pub right : IsCounted lines.spelling.form text → IsFor terms.rules terms.most entry.key.is_lost value entry.answer
 
 -- This is the record of the line at the front of some bytes, and `rest` is what is behind it: a text, and the byte that ends it.
 -- The last line of an input may have no end, and is then not empty. Both are what is handed on of it.
@@ -50,10 +60,12 @@ pub record LineOf (lines : Lines) (terms : Terms) (bytes : List ℕ) (entry : En
 
 -- the value of a line came, if it is a text of digits, and its KEY
 pub record LineCame (lines : Lines) (text : List ℕ) (r : Reading) : Type 0 where
-  pub value : Value
+  pub bare : List ℕ
+  pub is_bare : IsBare lines text bare
+  pub field : List ℕ
   pub key : Option (List ℕ)
-  pub is : IsOfLine lines text value key
-  pub came : IsCounted lines.form text → Came r value
+  pub is_field : IsValue lines.field bare field key
+  pub came : IsCounted lines.spelling.form text → Came r (value_in lines.spelling field)
   pub key_is : IsKeyOf r.key key
   pub stopped : HasLostKey r.key → HasStopped r
 
@@ -62,7 +74,7 @@ pub record FieldCame (lines : Lines) (line : List ℕ) (old new : Reading) : Typ
   pub field : List ℕ
   pub key : Option (List ℕ)
   pub is_field : IsValue lines.field line field key
-  pub came : IsReady old lines.form → IsCounted lines.form line → Came new (value_in lines.form field)
+  pub came : IsReady old lines.spelling.form → IsCounted lines.spelling.form line → Came new (value_in lines.spelling field)
   pub key_is : HasNoKey old.key → IsKeyOf new.key key
   pub stopped : HasNoKey old.key → HasLostKey new.key → HasStopped new
 
@@ -106,3 +118,19 @@ pub record TakesLine (lines : Lines) (from now : Arriving) (r : Record) : Type 0
   pub is : (tail ≡ end_of lines ∷ []) ⊎ ((tail ≡ []) × (0 < length text) × IsOver now)
   pub came : LineCame lines text r.reading
   pub held : Holds r (text ++ tail)
+
+-- where a reader of lines may end one in the KEY that is kept, that is the answer
+abbrev pub JudgesKey : Lines → (old new : Reading) → Type 0
+JudgesKey lines old new = new ≡ (if not lines.zero && ends_lines old.key then record old { answer = Some answer.LineEndInKey } else old)
+
+-- the record that was read ended, behind that
+pub record LineEnds (lines : Lines) (old new : Clerk) (before after told_before told_after : SinkState) : Type 0 where
+  pub reading : Reading
+  pub judges : JudgesKey lines old.current.reading reading
+  pub passed : Bool
+  pub closes : Closes (record old { current = record old.current { reading = reading } }) new before after told_before told_after passed
+
+abbrev pub LineEndsTo : {S T : Type 0} → (S → Option (List ℕ)) → (S → Bool) → (T → Option (List ℕ)) → (T → Bool) → Lines → (old new : Clerk) → (before after : S) → (told_before told_after : T) → Type 0
+LineEndsTo gone_out has_failed told_out told_failed lines old new before after told_before told_after =
+    LineEnds lines old new (sink_state (gone_out before) (has_failed before)) (sink_state (gone_out after) (has_failed after))
+    (sink_state (told_out told_before) (told_failed told_before)) (sink_state (told_out told_after) (told_failed told_after))

@@ -13,6 +13,7 @@ use Rattle.jser_scan.specs.declared.Rules.{Rules}
 use Rattle.jser_scan.specs.Lines.{is_accepted}
 use Rattle.jser_records.specs.declared.answer.Answer.{Answer}
 use Rattle.jser_records.specs.declared.answer.Answer.TheVariants as answer
+use Rattle.jser_records.specs.declared.layout.Spelling.{Spelling}
 use Rattle.jser_records.specs.declared.reading.Reading.{Reading}
 use Rattle.jser_records.specs.Keys.{HasAdded, HasNoRoom}
 use Rattle.jser_records.specs.Judged.{HasJudged, IsRead, IsSound, Judging}
@@ -25,7 +26,9 @@ IsRight rules most bytes (answer.Checked result) = IsSound rules bytes result ×
 IsRight rules most bytes answer.Null = ⊥
 IsRight rules most bytes (answer.Longer limit) = (limit ≡ most) × (most < length bytes)
 IsRight rules most bytes answer.LongKey = ⊥
+IsRight rules most bytes answer.LineEndInKey = ⊥
 IsRight rules most bytes (answer.Cut at total) = ⊥
+IsRight rules most bytes answer.ErrorReply = ⊥
 IsRight rules most bytes answer.NoLength = ⊥
 
 -- no text is wrong where there is none
@@ -34,7 +37,9 @@ IsOfBytes (answer.Checked result) = IsRead result
 IsOfBytes answer.Null = Unit {0}
 IsOfBytes (answer.Longer most) = Unit {0}
 IsOfBytes answer.LongKey = Unit {0}
+IsOfBytes answer.LineEndInKey = Unit {0}
 IsOfBytes (answer.Cut at total) = Unit {0}
+IsOfBytes answer.ErrorReply = Unit {0}
 IsOfBytes answer.NoLength = Unit {0}
 
 -- ---- the bytes that came of a value
@@ -85,7 +90,9 @@ IsPlaced form mark text (answer.Checked result) = IsPlacedIn form mark text resu
 IsPlaced form mark text answer.Null = Unit {0}
 IsPlaced form mark text (answer.Longer most) = Unit {0}
 IsPlaced form mark text answer.LongKey = Unit {0}
+IsPlaced form mark text answer.LineEndInKey = Unit {0}
 IsPlaced form mark text (answer.Cut at total) = Unit {0}
+IsPlaced form mark text answer.ErrorReply = Unit {0}
 IsPlaced form mark text answer.NoLength = Unit {0}
 
 -- that is answered where a text was read to a wrong place
@@ -115,13 +122,16 @@ pub record KeepsRules (old new : Reading) : Type 0 where
 -- ---- a record that is read
 
 -- The value of a record: none, or bytes as they are, or those that a text spells, behind a mark of so many characters; or the input
--- ends in it, behind so many bytes of all; or nobody knows which bytes it has.
+-- ends in it, behind so many bytes of all; or nobody knows which bytes it has; or a reader of lines may end one in its KEY, so that
+-- others find other records there; or a server's error stands in its place.
 pub data Value : Type 0 where
   none : Value
   plain : List ℕ → Value
   text_of : Form → (mark : ℕ) → List ℕ → Value
   cut_at : (at total : ℕ) → Value
   unknown : Value
+  parted : Value
+  failed : Value
 
 -- what is answered of this value
 abbrev pub IsOf : Rules → (most : ℕ) → Value → Answer → Type 0
@@ -130,6 +140,8 @@ IsOf rules most (plain bytes) a = IsRight rules most bytes a × IsOfBytes a
 IsOf rules most (text_of form mark text) a = IsRight rules most (spelling_of form text) a × IsPlaced form mark text a
 IsOf rules most (cut_at at total) a = a ≡ answer.Cut at total
 IsOf rules most unknown a = a ≡ answer.NoLength
+IsOf rules most parted a = a ≡ answer.LineEndInKey
+IsOf rules most failed a = a ≡ answer.ErrorReply
 
 -- so it is, unless there is no memory, or the KEY is too long
 abbrev pub IsFor : Rules → (most : ℕ) → (is_lost : Bool) → Value → Answer → Type 0
@@ -164,6 +176,8 @@ HasCome r (plain bytes) = HasPlain r bytes
 HasCome r (text_of form mark text) = HasSpelled r form mark text
 HasCome r (cut_at at total) = r.answer ≡ Some (answer.Cut at total)
 HasCome r unknown = r.answer ≡ Some answer.NoLength
+HasCome r parted = r.answer ≡ Some answer.LineEndInKey
+HasCome r failed = r.answer ≡ Some answer.ErrorReply
 
 -- no more of it is read: there is no memory, or the KEY is too long
 abbrev pub HasStopped : Reading → Type 0
@@ -172,9 +186,10 @@ HasStopped r = (r.answer ≡ Some (answer.Checked found.OutOfMemory)) ⊎ ((r.an
 abbrev pub Came : Reading → Value → Type 0
 Came r value = HasCome r value ⊎ HasStopped r
 
--- the value that a field of this form is: none, or what its characters spell, behind their mark
-abbrev pub value_in : Form → List ℕ → Value
-value_in form field = if is_null field then none else text_of form (mark_in form field) (characters_in form (behind_mark form field))
+-- the value that a field is, written so: none, or what its characters spell, behind their mark
+abbrev pub value_in : Spelling → List ℕ → Value
+value_in written field =
+    if is_null field then none else text_of written.form (mark_in written.form field) (characters_in written.copy (behind_mark written.form field))
 
 -- a text of digits, of no more characters than a machine counts
 pub record IsCounted (form : Form) (text : List ℕ) : Type 0 where

@@ -1,20 +1,22 @@
--- The text of a value. In base64 a line feed may be written as two characters.
-use Rattle.std.specs.Prelude.{ℕ, ◌==◌, ◌&&◌, ◌||◌, Bool, false, drop, if◌then◌else◌, List, [], ◌∷◌}
+-- The text of a value: which of its characters are digits to the decoder, which are passed over, and what stands for no value.
+use Rattle.std.specs.Prelude.{ℕ, ◌==◌, ◌&&◌, ◌||◌, Bool, false, drop, map, if◌then◌else◌, List, [], ◌∷◌}
 use Rattle.jser_inputs.specs.declared.Form.{Form}
 use Rattle.jser_inputs.specs.declared.Form.TheVariants as form
+use Rattle.jser_inputs.specs.Digits.{is_space}
 
--- `\n` is passed over: both characters are as white space
+-- White space, which the decoder passes over, is no character of a value: it is as a NUL, which is no digit of any form.
+abbrev pub without_space : ℕ → ℕ
+without_space c = if is_space c then 0x00 else c
+
+-- `\n` of two characters is passed over: both are as white space
 abbrev pub blanked : List ℕ → List ℕ
 blanked [] = []
 blanked (c ∷ []) = c ∷ []
 blanked (c ∷ d ∷ text) = if c == 0x5C && d == 0x6E then 0x20 ∷ 0x20 ∷ blanked text else c ∷ blanked (d ∷ text)
 
--- the characters of a text in this form
-abbrev pub characters_in : Form → List ℕ → List ℕ
-characters_in form.Binary text = text
-characters_in form.Hex text = text
-characters_in form.Base64 text = blanked text
-characters_in form.Base64Url text = blanked text
+-- the characters of a text, as its decoder takes them
+abbrev pub characters_in : (copy : Bool) → List ℕ → List ℕ
+characters_in copy text = if copy then blanked (map without_space text) else map without_space text
 
 -- `\N` stands for no value
 abbrev pub is_null : List ℕ → Bool

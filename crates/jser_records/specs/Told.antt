@@ -21,7 +21,9 @@ counted tally (answer.Checked result) = noted tally result
 counted tally answer.Null = one_accepted tally
 counted tally (answer.Longer most) = one_unread tally
 counted tally answer.LongKey = one_unread tally
+counted tally answer.LineEndInKey = one_unread tally
 counted tally (answer.Cut at total) = one_unread tally
+counted tally answer.ErrorReply = one_unread tally
 counted tally answer.NoLength = one_unread tally
 
 -- a record that has ended: its KEY with the units of it, its answer, and the bytes of it that were kept

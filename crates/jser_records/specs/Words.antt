@@ -15,7 +15,9 @@ words_of (answer.Checked result) k = answer_words result k
 words_of answer.Null k = codes "null" ++ k
 words_of (answer.Longer most) k = count_words (codes "longer than ") most (codes " bytes" ++ k)
 words_of answer.LongKey k = codes "key longer than 65535 bytes" ++ k
+words_of answer.LineEndInKey k = codes "line end in its KEY" ++ k
 words_of (answer.Cut at total) k = count_words (codes "cut at ") at (count_words (codes " of ") total (codes " bytes" ++ k))
+words_of answer.ErrorReply k = codes "error reply" ++ k
 words_of answer.NoLength k = codes "no length" ++ k
 
 -- the KEY with its units, as a path is printed; or the number of a record that has none
@@ -39,7 +41,9 @@ members (answer.Checked result) k = found_members result k
 members answer.Null k = codes ",\"answer\":\"null\"" ++ k
 members (answer.Longer most) k = error_member (answer.Longer most) k
 members answer.LongKey k = error_member answer.LongKey k
+members answer.LineEndInKey k = error_member answer.LineEndInKey k
 members (answer.Cut at total) k = error_member (answer.Cut at total) k
+members answer.ErrorReply k = error_member answer.ErrorReply k
 members answer.NoLength k = error_member answer.NoLength k
 
 abbrev pub object_words : (number : ℕ) → Key → (units : List ℕ) → Answer → List ℕ → List ℕ

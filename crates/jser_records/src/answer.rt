@@ -16,6 +16,8 @@ pub enum Answer {
     },
     /// Its KEY has more than 65,535 bytes.
     LongKey,
+    /// A reader of lines may end one in its KEY.
+    LineEndInKey,
     /// The input ends in it.
     Cut {
         /// How many bytes of it came.
@@ -23,6 +25,8 @@ pub enum Answer {
         /// How many it has.
         of: u64,
     },
+    /// A server's error stands in its place.
+    ErrorReply,
     /// Where its length should be there is none, so that nobody knows where the next one begins.
     NoLength,
 }

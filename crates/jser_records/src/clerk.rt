@@ -217,9 +217,12 @@ fn counted(tally: Tally, answer: &Answer) -> Tally
     match answer {
         Answer::Checked(found) => tally.note(found),
         Answer::Null => tally.note_accepted(),
-        Answer::Longer { .. } | Answer::LongKey | Answer::Cut { .. } | Answer::NoLength => {
-            tally.note_unread()
-        }
+        Answer::Longer { .. }
+        | Answer::LongKey
+        | Answer::LineEndInKey
+        | Answer::Cut { .. }
+        | Answer::ErrorReply
+        | Answer::NoLength => tally.note_unread(),
     }
     tally
 }

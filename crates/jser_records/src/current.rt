@@ -1,16 +1,17 @@
 //! The record that is read, and the bytes that came of it, where these may be handed on.
-ghost use Rattle.std.specs.Prelude.{◌≡◌, ◌⊎◌, ◌++◌, ◌<◌, ◌^◌, ℕ, List, [], length, true, false, Some, None, IfOk, IfSome};
+ghost use Rattle.std.specs.Prelude.{◌≡◌, ◌⊎◌, ◌++◌, ◌<◌, ◌^◌, ℕ, List, [], length, map, true, false, Some, None, IfOk, IfSome};
 ghost use Rattle.jser_inputs.specs.declared.Form.{Form as ToldForm};
 ghost use Rattle.jser_inputs.specs.Places.{first_place};
 ghost use Rattle.jser_records.specs.Held.{Holds, HoldsMore, HoldsSame, Keeps, may_pass, passes};
 ghost use Rattle.jser_records.specs.Keys.{HasNoKey, KeepsKey};
 ghost use Rattle.jser_records.specs.Readings.{Came, Counts, HasRead, HasSpelled, IsFor, IsOfDigits, KeepsRules};
 ghost use Rattle.jser_records.specs.Readings.{Value as ToldValue};
-ghost use Rattle.jser_records.specs.Texts.{blanked, characters_in};
+ghost use Rattle.jser_records.specs.Texts.{blanked, characters_in, without_space};
 
 use crate::answer::Answer;
 use crate::inbox::ROOM;
 use crate::key::units_of_key;
+use crate::layout::Spelling;
 use crate::reading::Reading;
 use jser_inputs::Form;
 use jser_scan::{Found, Rules, is_plain};
@@ -121,9 +122,9 @@ impl<'f> Record<'f> {
 
     /// Takes more characters of the value, which become the bytes that they spell.
     #[tactic(auto, using(crate::proofs::HeldLemmas::keeps_rules, crate::proofs::HeldLemmas::holds_answered))]
-    pub(crate) fn spell(&mut self, form: Form, text: &[u8])
-        ensures spelled { (mark : ℕ) (before : List ℕ) → IsOfDigits form → length (before ++ text.now) < 2 ^ 63 → HasSpelled self.old.reading form mark before
-            → HasSpelled self.new.reading form mark (before ++ characters_in form text.now) }
+    pub(crate) fn spell(&mut self, spelling: Spelling, text: &[u8])
+        ensures spelled { (mark : ℕ) (before : List ℕ) → IsOfDigits spelling.form → length (before ++ text.now) < 2 ^ 63 → HasSpelled self.old.reading spelling.form mark before
+            → HasSpelled self.new.reading spelling.form mark (before ++ characters_in spelling.copy text.now) }
         ensures answered { IfSome self.old.reading.answer (λ a. self.new.reading ≡ self.old.reading) }
         ensures key { self.new.reading.key ≡ self.old.reading.key }
         ensures keeps { Keeps self.old self.new }
@@ -137,7 +138,7 @@ impl<'f> Record<'f> {
             self.reading.decide(Answer::Checked(Found::OutOfMemory));
             return;
         }
-        spell_over(&mut self.reading, form, self.text.as_mut_slice());
+        spell_over(&mut self.reading, spelling, self.text.as_mut_slice());
     }
 
     /// The bytes that were kept.
@@ -181,28 +182,48 @@ impl<'f> Record<'f> {
 }
 
 /// Takes more characters, in room where they become the bytes that they spell.
-fn spell_over(reading: &mut Reading<'_>, form: Form, text: &mut [u8])
-    ensures spelled { (mark : ℕ) (before : List ℕ) → IsOfDigits form → length (before ++ text.old) < 2 ^ 63 → HasSpelled reading.old form mark before
-        → HasSpelled reading.new form mark (before ++ characters_in form text.old) }
+fn spell_over(reading: &mut Reading<'_>, spelling: Spelling, text: &mut [u8])
+    ensures spelled { (mark : ℕ) (before : List ℕ) → IsOfDigits spelling.form → length (before ++ text.old) < 2 ^ 63 → HasSpelled reading.old spelling.form mark before
+        → HasSpelled reading.new spelling.form mark (before ++ characters_in spelling.copy text.old) }
     ensures answered { IfSome reading.old.answer (λ a. reading.new ≡ reading.old) }
     ensures key { reading.new.key ≡ reading.old.key }
     ensures rules { KeepsRules reading.old reading.new }
 {
-    mark_over(form, text);
+    write_over(spelling.copy, text);
     reading.spell(text);
 }
 
-/// Writes white space over the characters that this form passes over.
-fn mark_over(form: Form, text: &mut [u8])
-    ensures { text.new ≡ characters_in form text.old }
+/// Writes over the characters of a value that the decoder is to take otherwise: white space becomes a NUL, which is no digit, and
+/// `\n` of two characters white space, where it is passed over.
+fn write_over(copy: bool, text: &mut [u8])
+    ensures { text.new ≡ characters_in copy text.old }
 {
-    match form {
-        Form::Base64 | Form::Base64Url => blank_line_feeds(text),
-        Form::Binary | Form::Hex => {}
+    refuse_space(text);
+    if copy {
+        blank_line_feeds(text);
     }
 }
 
-/// Writes spaces over each `\n` of two characters: base64 passes over both.
+/// Writes a NUL over each character of white space.
+fn refuse_space(text: &mut [u8])
+    ensures { text.new ≡ map without_space text.old }
+{
+    for character in text.iter_mut() {
+        *character = without_space(*character);
+    }
+}
+
+/// A character, or a NUL for one of white space.
+fn without_space(character: u8) -> u8
+    ensures { result ≡ without_space character }
+{
+    match character {
+        b' ' | b'\t' | b'\n' | b'\r' => 0,
+        _ => character,
+    }
+}
+
+/// Writes spaces over each `\n` of two characters: the decoder passes over both.
 fn blank_line_feeds(text: &mut [u8])
     ensures { text.new ≡ blanked text.old }
 {

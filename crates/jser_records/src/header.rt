@@ -1,13 +1,19 @@
 //! The line before the bytes of a record: it ends in their number, and what is before that is the KEY.
 
 ghost use Rattle.std.specs.Prelude.{◌≡◌, ◌≤◌, ◌<◌, ◌++◌, ◌∷◌, ℕ, List, [], All, None, IfSome, if◌then◌else◌, length, take, drop};
-ghost use Rattle.jser_records.specs.Headers.{EndsIn, EndsKey, IsDigit, IsHeader, NullKey, is_reply, number_from};
+ghost use Rattle.jser_records.specs.Headers.{EndsIn, EndsKey, IsDigit, IsHeader, NullKey, SaysHeader, is_error, is_reply, number_from};
+
+use crate::line_end::has_line_end;
 
 /// What a line says of the record behind it.
 #[derive(Clone, Copy, PartialEq, Eq, Debug)]
 pub(crate) enum Header {
     /// It is no header: an empty line, `END`, or one of `*`, `+`, `-` or `:` without a length.
     Other,
+    /// A reader of lines may end one in it.
+    LineEnd,
+    /// It is a server's error, behind which nothing is of it.
+    Error,
     /// So many bytes follow.
     Bytes {
         /// The end of the KEY.
@@ -28,9 +34,33 @@ pub(crate) enum Header {
 const DIGITS: usize = 18;
 
 /// What a line says, without its end.
-#[tactic(auto, using(crate::proofs::HeaderLemmas::says_null, crate::proofs::HeaderLemmas::says_none))]
+#[tactic(auto, using(crate::proofs::HeaderLemmas::is_header))]
 pub(crate) fn header_of(line: &[u8]) -> Header
     ensures { IsHeader line.now result }
+{
+    if has_line_end(line) {
+        Header::LineEnd
+    } else if is_error(line) {
+        Header::Error
+    } else {
+        length_of(line)
+    }
+}
+
+/// Whether a line is a server's error: `-` and its name in capital letters.
+fn is_error(line: &[u8]) -> bool
+    ensures { result ≡ is_error line.now }
+{
+    match line {
+        [b'-', b'A'..=b'Z', ..] => true,
+        _ => false,
+    }
+}
+
+/// What a line says of a length.
+#[tactic(auto, using(crate::proofs::HeaderLemmas::says_null, crate::proofs::HeaderLemmas::says_none))]
+fn length_of(line: &[u8]) -> Header
+    ensures { SaysHeader line.now result }
 {
     let (front, digits) = line.split_at(number_start(line));
     if digits.is_empty() || digits.len() > DIGITS {

@@ -2,6 +2,7 @@
 
 ghost use Rattle.std.specs.Prelude.{◌≡◌, ◌≤◌, true, false, vec_capacity};
 
+use crate::line_end::has_line_end;
 use std::alloc::{AllocError, Global};
 use std::str;
 
@@ -18,7 +19,7 @@ pub(crate) struct Key {
 }
 
 impl Key {
-    ghost use Rattle.jser_records.specs.Keys.{HasAdded, HasLostKey, HasNoKey, HasNoRoom};
+    ghost use Rattle.jser_records.specs.Keys.{HasAdded, HasLostKey, HasNoKey, HasNoRoom, ends_lines};
 
     /// None so far.
     pub(crate) fn new(alloc: Global) -> Result<Key, AllocError> {
@@ -66,6 +67,13 @@ impl Key {
         ensures { result ≡ self.now.is_there }
     {
         self.is_there
+    }
+
+    /// Whether a reader of lines may end one in it.
+    pub(crate) fn has_line_end(&self) -> bool
+        ensures { result ≡ ends_lines self.now }
+    {
+        self.is_there && has_line_end(self.bytes.as_slice())
     }
 
     /// Its bytes, as far as they are known.

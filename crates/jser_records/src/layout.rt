@@ -26,12 +26,21 @@ pub enum Shape {
 /// What the lines are.
 #[derive(Clone, Copy, PartialEq, Eq, Debug)]
 pub struct Lines {
-    /// The form of the value.
-    pub form: Form,
+    /// How the value is written.
+    pub spelling: Spelling,
     /// Whether a NUL ends a line, in place of a line feed.
     pub zero: bool,
     /// Which field is the value, from 1; the last where that is not said. TAB is between fields; the others are the KEY.
     pub field: Option<u64>,
+}
+
+/// How the value of a line is written.
+#[derive(Clone, Copy, PartialEq, Eq, Debug)]
+pub struct Spelling {
+    /// The form of its digits.
+    pub form: Form,
+    /// Whether the two characters `\n` are passed over: PostgreSQL's `\copy` writes a line feed so.
+    pub copy: bool,
 }
 
 impl Lines {

@@ -13,6 +13,7 @@ mod inbox;
 mod judge;
 mod key;
 mod layout;
+mod line_end;
 mod lines;
 mod parts;
 mod reading;
@@ -21,5 +22,5 @@ mod sized;
 mod words;
 
 pub use answer::Answer;
-pub use layout::{Layout, Lines, Shape};
+pub use layout::{Layout, Lines, Shape, Spelling};
 pub use run::{Asked, run_records};

@@ -7,7 +7,7 @@ ghost use Rattle.jser_records.specs.Arriving.{HasNone, IsBefore, IsOver, room_si
 ghost use Rattle.jser_records.specs.Fields.{IsBare};
 ghost use Rattle.jser_records.specs.Held.{Holds, HoldsMore, HoldsSame, Keeps};
 ghost use Rattle.jser_records.specs.Keys.{HasLostKey, HasNoKey, IsKeyOf, longer_key};
-ghost use Rattle.jser_records.specs.Lines.{FieldCame, LineCame, StretchTakes, TakesFirst, TakesLine, end_of};
+ghost use Rattle.jser_records.specs.Lines.{FieldCame, JudgesKey, LineCame, LineEndsTo, StretchTakes, TakesFirst, TakesLine, end_of};
 ghost use Rattle.jser_records.specs.Readings.{Came, HasSpelled, HasStopped, IsOfDigits, IsReady};
 ghost use Rattle.jser_records.specs.Readings.{Value as ToldValue};
 ghost use Rattle.jser_records.specs.Records.{RecordsGoTo, RecordsTo};
@@ -19,8 +19,9 @@ use crate::answer::Answer;
 use crate::clerk::Clerk;
 use crate::current::Record;
 use crate::inbox::Inbox;
-use crate::layout::Lines;
+use crate::layout::{Lines, Spelling};
 use crate::parts::{Parts, parts_of};
+use crate::reading::Reading;
 use crate::run::{Trouble, read_more};
 use jser_inputs::Form;
 use jser_prim::{Sink, Source};
@@ -76,7 +77,7 @@ fn next_line<R: Source, W: Sink, E: Sink>(
     match inbox.find() {
         Some(count) => {
             take_whole_line(inbox, &mut clerk.current, lines, count);
-            clerk.close(output, faults);
+            end_line(clerk, lines, output, faults);
             Ok(true)
         }
         None if inbox.is_full() => read_long_line(inbox, clerk, lines, output, faults),
@@ -128,7 +129,30 @@ fn take_last_line<R: Source, W: Sink, E: Sink>(
     }
     take_line(&mut clerk.current, lines, inbox.front(count), &[]);
     inbox.pass(count);
+    end_line(clerk, lines, output, faults);
+}
+
+/// A line was taken, and ends.
+#[tactic(auto, using(crate::proofs::LineLemmas::line_closed))]
+fn end_line<W: Sink, E: Sink>(
+    clerk: &mut Clerk<'_>,
+    lines: Lines,
+    output: &mut W,
+    faults: &mut E,
+)
+    ensures ends { LineEndsTo W.gone_out W.has_failed E.gone_out E.has_failed lines clerk.old clerk.new output.old output.new faults.old faults.new }
+{
+    judge_key(&mut clerk.current.reading, lines);
     clerk.close(output, faults);
+}
+
+/// Where a reader of lines may end one in its KEY, that is the answer, unless a NUL ends lines.
+fn judge_key(reading: &mut Reading<'_>, lines: Lines)
+    ensures { JudgesKey lines reading.old reading.new }
+{
+    if !lines.zero && reading.key.has_line_end() {
+        reading.decide(Answer::LineEndInKey);
+    }
 }
 
 /// The bytes that end a line.
@@ -144,7 +168,7 @@ fn take_line(current: &mut Record<'_>, lines: Lines, line: &[u8], end: &[u8])
     ensures held { Holds current.new (line.now ++ end.now) }
     ensures keeps { Keeps current.old current.new }
 {
-    current.begin(lines.form);
+    current.begin(lines.spelling.form);
     current.hold(line);
     current.hold(end);
     let _ = take_front(current, lines, without_return(lines, line));
@@ -164,8 +188,8 @@ fn without_return(lines: Lines, line: &[u8]) -> &[u8]
 /// Takes the first bytes of a line, all of its KEY before the value among them.
 fn take_front(current: &mut Record<'_>, lines: Lines, line: &[u8]) -> Stretch
     ensures came { FieldCame lines line.now current.old.reading current.new.reading }
-    ensures on { room_size ≤ length line.now + 1 → IsReady current.old.reading lines.form → HasNoKey current.old.reading.key
-        → InStretch result lines.form lines.field line.now current.new.reading }
+    ensures on { room_size ≤ length line.now + 1 → IsReady current.old.reading lines.spelling.form → HasNoKey current.old.reading.key
+        → InStretch result lines.spelling lines.field line.now current.new.reading }
     ensures held { HoldsSame current.old current.new }
     ensures keeps { Keeps current.old current.new }
 {
@@ -173,7 +197,7 @@ fn take_front(current: &mut Record<'_>, lines: Lines, line: &[u8]) -> Stretch
     let (before, rest) = line.split_at(parts.from);
     take_before(current, parts, before);
     let (value, behind) = rest.split_at(parts.to - parts.from);
-    take_value_front(current, lines.form, value);
+    take_value_front(current, lines.spelling, value);
     match behind {
         [] => value_stretch(lines),
         _ => {
@@ -230,10 +254,10 @@ fn take_behind(current: &mut Record<'_>, behind: &[u8], is_first: bool)
 
 /// Takes the first characters of a value: a null, or a mark before hexadecimal digits, is known by them.
 #[tactic(auto, using(crate::proofs::HeldLemmas::holds_kept, crate::proofs::HeldLemmas::keeps_rules, crate::proofs::HeldLemmas::keeps_both))]
-fn take_value_front(current: &mut Record<'_>, form: Form, value: &[u8])
+fn take_value_front(current: &mut Record<'_>, spelling: Spelling, value: &[u8])
     ensures null { is_null value.now ≡ true → current.old.reading.answer ≡ None → current.new.reading.answer ≡ Some Answer.Null }
-    ensures text { is_null value.now ≡ false → current.old.reading.answer ≡ None → IsOfDigits form → length value.now < 2 ^ 63 → HasSpelled current.old.reading form 0 []
-        → HasSpelled current.new.reading form (mark_in form value.now) (characters_in form (behind_mark form value.now)) }
+    ensures text { is_null value.now ≡ false → current.old.reading.answer ≡ None → IsOfDigits spelling.form → length value.now < 2 ^ 63 → HasSpelled current.old.reading spelling.form 0 []
+        → HasSpelled current.new.reading spelling.form (mark_in spelling.form value.now) (characters_in spelling.copy (behind_mark spelling.form value.now)) }
     ensures kept { IfSome current.old.reading.answer (λ a. current.new.reading.answer ≡ Some a) }
     ensures held { HoldsSame current.old current.new }
     ensures key { current.new.reading.key ≡ current.old.reading.key }
@@ -243,13 +267,13 @@ fn take_value_front(current: &mut Record<'_>, form: Form, value: &[u8])
         current.reading.decide_null();
         return;
     }
-    let marked = match form {
+    let marked = match spelling.form {
         Form::Hex => mark_len(value),
         Form::Binary | Form::Base64 | Form::Base64Url => 0,
     };
     current.reading.skip(marked);
     let (_, digits) = value.split_at(marked);
-    current.spell(form, digits);
+    current.spell(spelling, digits);
 }
 
 /// Whether these characters stand for no value.
@@ -294,7 +318,7 @@ fn read_long_line<R: Source, W: Sink, E: Sink>(
         match next_stretch(inbox, &mut clerk.current, lines, stretch) {
             Some(next) => stretch = next,
             None => {
-                clerk.close(output, faults);
+                end_line(clerk, lines, output, faults);
                 return Ok(true);
             }
         }
@@ -371,42 +395,42 @@ fn whole_count(waiting: &[u8]) -> usize
 
 /// Begins a long line by its first bytes.
 fn begin_line(current: &mut Record<'_>, lines: Lines, front: &[u8]) -> Stretch
-    ensures on { room_size ≤ length front.now + 1 → InStretch result lines.form lines.field front.now current.new.reading }
+    ensures on { room_size ≤ length front.now + 1 → InStretch result lines.spelling lines.field front.now current.new.reading }
     ensures keeps { Keeps current.old current.new }
     ensures held { Holds current.new front.now }
 {
-    current.begin(lines.form);
+    current.begin(lines.spelling.form);
     current.hold(front);
     take_front(current, lines, front)
 }
 
 /// Takes one more piece of a long line.
 fn take_piece(current: &mut Record<'_>, lines: Lines, stretch: Stretch, piece: &[u8]) -> Stretch
-    ensures on { (line : List ℕ) → room_size ≤ length line + 1 → IsApart line piece.now → InStretch stretch lines.form lines.field line current.old.reading
-        → InStretch result lines.form lines.field (line ++ piece.now) current.new.reading }
+    ensures on { (line : List ℕ) → room_size ≤ length line + 1 → IsApart line piece.now → InStretch stretch lines.spelling lines.field line current.old.reading
+        → InStretch result lines.spelling lines.field (line ++ piece.now) current.new.reading }
     ensures keeps { Keeps current.old current.new }
     ensures held { HoldsMore current.old current.new piece.now }
 {
     current.hold(piece);
-    take_text(current, lines.form, stretch, piece)
+    take_text(current, lines.spelling, stretch, piece)
 }
 
 /// Takes the last piece of a long line, without its end.
 fn take_last_piece(current: &mut Record<'_>, lines: Lines, stretch: Stretch, piece: &[u8])
-    ensures ends { (line : List ℕ) → room_size ≤ length line + 1 → IsApart line piece.now → InStretch stretch lines.form lines.field line current.old.reading
+    ensures ends { (line : List ℕ) → room_size ≤ length line + 1 → IsApart line piece.now → InStretch stretch lines.spelling lines.field line current.old.reading
         → PieceEnds lines line piece.now current.new.reading }
     ensures keeps { Keeps current.old current.new }
     ensures held { HoldsMore current.old current.new piece.now }
 {
     current.hold(piece);
-    let _ = take_text(current, lines.form, stretch, without_return(lines, piece));
+    let _ = take_text(current, lines.spelling, stretch, without_return(lines, piece));
 }
 
 /// Takes the text of a piece.
 #[tactic(auto, using(crate::proofs::HeldLemmas::holds_keyed, crate::proofs::HeldLemmas::keeps_keyed))]
-fn take_text(current: &mut Record<'_>, form: Form, stretch: Stretch, text: &[u8]) -> Stretch
-    ensures on { (asked : Option ℕ) (line : List ℕ) → room_size ≤ length line + 1 → IsApart line text.now → InStretch stretch form asked line current.old.reading
-        → InStretch result form asked (line ++ text.now) current.new.reading }
+fn take_text(current: &mut Record<'_>, spelling: Spelling, stretch: Stretch, text: &[u8]) -> Stretch
+    ensures on { (asked : Option ℕ) (line : List ℕ) → room_size ≤ length line + 1 → IsApart line text.now → InStretch stretch spelling asked line current.old.reading
+        → InStretch result spelling asked (line ++ text.now) current.new.reading }
     ensures keeps { Keeps current.old current.new }
     ensures held { HoldsSame current.old current.new }
 {
@@ -416,18 +440,18 @@ fn take_text(current: &mut Record<'_>, form: Form, stretch: Stretch, text: &[u8]
             Stretch::Behind
         }
         Stretch::LastValue => {
-            take_last_value(current, form, text);
+            take_last_value(current, spelling, text);
             Stretch::LastValue
         }
-        Stretch::Value => take_value(current, form, text),
+        Stretch::Value => take_value(current, spelling, text),
     }
 }
 
 /// Takes the text of a piece, in the value, which is the last field.
 #[tactic(auto, using(crate::proofs::HeldLemmas::holds_refused, crate::proofs::HeldLemmas::keeps_rules))]
-fn take_last_value(current: &mut Record<'_>, form: Form, text: &[u8])
-    ensures on { (asked : Option ℕ) (line : List ℕ) → room_size ≤ length line + 1 → IsApart line text.now → InStretch Stretch.LastValue form asked line current.old.reading
-        → InStretch Stretch.LastValue form asked (line ++ text.now) current.new.reading }
+fn take_last_value(current: &mut Record<'_>, spelling: Spelling, text: &[u8])
+    ensures on { (asked : Option ℕ) (line : List ℕ) → room_size ≤ length line + 1 → IsApart line text.now → InStretch Stretch.LastValue spelling asked line current.old.reading
+        → InStretch Stretch.LastValue spelling asked (line ++ text.now) current.new.reading }
     ensures keeps { Keeps current.old current.new }
     ensures held { HoldsSame current.old current.new }
 {
@@ -435,27 +459,27 @@ fn take_last_value(current: &mut Record<'_>, form: Form, text: &[u8])
     if memchr(b'\t', text).is_some() {
         current.reading.lose_key();
     } else {
-        current.spell(form, text);
+        current.spell(spelling, text);
     }
 }
 
 /// Takes the text of a piece, in the value, which another field may follow.
-fn take_value(current: &mut Record<'_>, form: Form, text: &[u8]) -> Stretch
-    ensures on { (asked : Option ℕ) (line : List ℕ) → room_size ≤ length line + 1 → IsApart line text.now → InStretch Stretch.Value form asked line current.old.reading
-        → InStretch result form asked (line ++ text.now) current.new.reading }
+fn take_value(current: &mut Record<'_>, spelling: Spelling, text: &[u8]) -> Stretch
+    ensures on { (asked : Option ℕ) (line : List ℕ) → room_size ≤ length line + 1 → IsApart line text.now → InStretch Stretch.Value spelling asked line current.old.reading
+        → InStretch result spelling asked (line ++ text.now) current.new.reading }
     ensures keeps { Keeps current.old current.new }
     ensures held { HoldsSame current.old current.new }
 {
     match memchr(b'\t', text) {
         Some(at) => {
             let (value, behind) = text.split_at(at);
-            current.spell(form, value);
+            current.spell(spelling, value);
             let is_first = !current.reading.key.is_there();
             take_behind(current, behind, is_first);
             Stretch::Behind
         }
         None => {
-            current.spell(form, text);
+            current.spell(spelling, text);
             Stretch::Value
         }
     }

@@ -5,8 +5,9 @@ ghost use Rattle.std.specs.Io.KnownBytes.{IsAtEnd};
 ghost use Rattle.jser_records.specs.Arriving.{HasNone, IsBefore, room_size};
 ghost use Rattle.jser_records.specs.Held.{Holds, HoldsSame, Keeps};
 ghost use Rattle.jser_records.specs.Keys.{HasNoKey, IsKeyOf, key_if};
+ghost use Rattle.jser_records.specs.Readings.{Value as ToldValue};
 ghost use Rattle.jser_records.specs.Records.{AllSizedTo, NextTo, ValueTo};
-ghost use Rattle.jser_records.specs.Sized.{HasBegun, HeadWaits, LineWaits, TellsLossTo, WithoutReturn, at_line, at_line_end, line_end_at};
+ghost use Rattle.jser_records.specs.Sized.{HasBegun, HeadWaits, IsLoss, LineWaits, TellsLossTo, WithoutReturn, at_line, at_line_end, line_end_at};
 ghost use Rattle.jser_records.specs.declared.header.Header.TheVariants as ToldHeader;
 
 use crate::answer::Answer;
@@ -65,7 +66,7 @@ fn next_record<R: Source, W: Sink, E: Sink>(
     match inbox.find() {
         Some(count) => take_line(inbox, clerk, count, 1, output, faults),
         None if inbox.is_full() => {
-            tell_no_length(clerk, output, faults);
+            tell_loss(clerk, Answer::NoLength, output, faults);
             Ok(false)
         }
         None => match read_more(inbox, clerk, output, faults) {
@@ -142,8 +143,18 @@ fn take_record<R: Source, W: Sink, E: Sink>(
             Ok(true)
         }
         Header::NoLength => {
-            tell_no_length(clerk, output, faults);
+            tell_loss(clerk, Answer::NoLength, output, faults);
             Ok(false)
+        }
+        Header::LineEnd => {
+            tell_loss(clerk, Answer::LineEndInKey, output, faults);
+            Ok(false)
+        }
+        Header::Error => {
+            begin_record(inbox, &mut clerk.current, 0, size);
+            clerk.current.reading.decide(Answer::ErrorReply);
+            clerk.close(output, faults);
+            Ok(true)
         }
         Header::Null { key } => {
             begin_record(inbox, &mut clerk.current, key, size);
@@ -181,12 +192,17 @@ fn take_value<R: Source, W: Sink, E: Sink>(
     }
 }
 
-/// Tells of a record that its length is not known.
-fn tell_no_length<W: Sink, E: Sink>(clerk: &mut Clerk<'_>, output: &mut W, faults: &mut E)
-    ensures { TellsLossTo W.gone_out W.has_failed E.gone_out E.has_failed clerk.old clerk.new output.old output.new faults.old faults.new }
+/// Tells of a record why nobody knows what comes next.
+fn tell_loss<W: Sink, E: Sink>(
+    clerk: &mut Clerk<'_>,
+    answer: Answer,
+    output: &mut W,
+    faults: &mut E,
+)
+    ensures { (value : ToldValue) → IsLoss value answer → TellsLossTo W.gone_out W.has_failed E.gone_out E.has_failed value clerk.old clerk.new output.old output.new faults.old faults.new }
 {
     clerk.current.begin(Form::Binary);
-    clerk.current.reading.decide(Answer::NoLength);
+    clerk.current.reading.decide(answer);
     clerk.close(output, faults);
 }
 
@@ -239,7 +255,7 @@ fn take_line_end<R: Source, W: Sink, E: Sink>(
                 return Ok(true);
             }
             LineEnd::Missing => {
-                tell_no_length(clerk, output, faults);
+                tell_loss(clerk, Answer::NoLength, output, faults);
                 return Ok(false);
             }
             LineEnd::Awaited => match read_more(inbox, clerk, output, faults) {

@@ -49,11 +49,13 @@ fn write_words<W: Sink>(outbox: &mut Outbox, sink: &mut W, answer: &Answer)
             write(outbox, sink, b" bytes");
         }
         Answer::LongKey => write(outbox, sink, b"key longer than 65535 bytes"),
+        Answer::LineEndInKey => write(outbox, sink, b"line end in its KEY"),
         Answer::Cut { at, of } => {
             write_count(outbox, sink, b"cut at ", *at);
             write_count(outbox, sink, b" of ", *of);
             write(outbox, sink, b" bytes");
         }
+        Answer::ErrorReply => write(outbox, sink, b"error reply"),
         Answer::NoLength => write(outbox, sink, b"no length"),
     }
 }
@@ -94,9 +96,12 @@ fn write_answer_members<W: Sink>(outbox: &mut Outbox, sink: &mut W, answer: &Ans
     match answer {
         Answer::Checked(found) => write_members(outbox, sink, found),
         Answer::Null => write(outbox, sink, b",\"answer\":\"null\""),
-        Answer::Longer { .. } | Answer::LongKey | Answer::Cut { .. } | Answer::NoLength => {
-            write_error(outbox, sink, answer)
-        }
+        Answer::Longer { .. }
+        | Answer::LongKey
+        | Answer::LineEndInKey
+        | Answer::Cut { .. }
+        | Answer::ErrorReply
+        | Answer::NoLength => write_error(outbox, sink, answer),
     }
 }
 

@@ -119,6 +119,8 @@ fn clash_line(clash: Clash) -> &'static str {
         Clash::FramesAndForm => "--frames and another form are both given\n",
         Clash::SizedAndForm => "--sized and another form are both given\n",
         Clash::LinesAlone => "--zero and --field are of lines alone\n",
+        Clash::Base64Alone => "--copy is of base64 alone\n",
+        Clash::CopyAndPass => "--copy and --pass are both given\n",
     }
 }
 

@@ -8,7 +8,7 @@ use crate::{filter_with, tell_unopened};
 use jser_inputs::Form;
 use jser_line::Records;
 use jser_prim::{FromRead, Sink};
-use jser_records::{Asked, Layout, Lines, Shape, run_records};
+use jser_records::{Asked, Layout, Lines, Shape, Spelling, run_records};
 use jser_scan::{How, Rules};
 
 /// How many bytes of a record are read at most, where that is not said.
@@ -123,7 +123,10 @@ fn shape_of(words: &Records, field: Option<u64>) -> Shape {
         form => form,
     };
     Shape::Lines(Lines {
-        form,
+        spelling: Spelling {
+            form,
+            copy: words.copy,
+        },
         zero: words.zero,
         field,
     })

@@ -182,6 +182,7 @@ fn files_in(alloc: Global, line: Line) -> Result<Vec<String>, AllocError>
                 frames: _,
                 sized: _,
                 zero: _,
+                copy: _,
                 field: _field,
                 most: _most,
                 anywhere: _,

@@ -11,5 +11,5 @@ pub returns-clause-on : goal.returns-clause-on
 returns-clause-on c = λ long.
     let begun = c.begin.new.self.reading in
     let mid = c.hold.new.self.reading in
-    c.take_front.ensures.on long (ready_held begun mid c.args.lines.form c.hold.ensures.kept (inl (c.begin.ensures.open, c.begin.ensures.spelled)))
+    c.take_front.ensures.on long (ready_held begun mid c.args.lines.spelling.form c.hold.ensures.kept (inl (c.begin.ensures.open, c.begin.ensures.spelled)))
     (subst HasNoKey (sym (held_key begun mid c.hold.ensures.kept)) c.begin.ensures.key)

@@ -15,4 +15,4 @@ returns-clause-takes g c =
     first_taken lines s c.args.inbox.now c.pass.new.self count r c.requires.none c.requires.long (subst (λ xs. length xs ≤ count + 1) c.waiting.ensures whole.most)
     (subst (λ xs. LeavesLast xs count) c.waiting.ensures (record { clean = whole.clean; marked = whole.marked; left = whole.left })) c.pass.ensures
     (subst (λ xs. Holds r xs) c.front.ensures c.begin_line-stretch.ensures.held)
-    (subst (λ xs. room_size ≤ length xs + 1 → InStretch s lines.form lines.field xs r.reading) c.front.ensures c.begin_line-stretch.ensures.on)
+    (subst (λ xs. room_size ≤ length xs + 1 → InStretch s lines.spelling lines.field xs r.reading) c.front.ensures c.begin_line-stretch.ensures.on)

@@ -13,9 +13,9 @@ pub returns-in-Some-clause-records : goal.returns-in-Some-clause-records
 returns-in-Some-clause-records g c =
     let was = c.args.clerk.now in
     let now = c.take_whole_line.new.inbox in
-    line_ended c.args.lines was (record was { current = c.take_whole_line.new.current }) c.close.new.self c.args.inbox.now now _ _ _ _ _ _ c.close.result
+    line_ended c.args.lines was (record was { current = c.take_whole_line.new.current }) c.end_line.new.clerk c.args.inbox.now now _ _ _ _ _ _
     (quiet_changed was c.take_whole_line.new.current _ _ c.take_whole_line.ensures.keeps)
-    (subst (λ (a : Arriving). TakesLine c.args.lines a now c.take_whole_line.new.current) c.find.ensures.kept c.take_whole_line.ensures.takes) c.close.ensures.closes
+    (subst (λ (a : Arriving). TakesLine c.args.lines a now c.take_whole_line.new.current) c.find.ensures.kept c.take_whole_line.ensures.takes) c.end_line.ensures.ends
 
 pub returns-in-Ok-true-clause-records : goal.returns-in-Ok-true-clause-records
 returns-in-Ok-true-clause-records g c =

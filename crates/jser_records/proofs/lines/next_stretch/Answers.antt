@@ -20,7 +20,7 @@ returns-in-Some-clause-takes g c =
     (subst (λ (a : Arriving). c.pass.new.self ≡ record a { waiting = drop (count + 1) a.waiting }) c.find.ensures.kept c.pass.ensures)
     (subst (λ xs. HoldsMore was mid xs) taken c.take_last_piece.ensures.held) (subst (λ xs. HoldsMore mid c.hold.new.self xs) c.line_end.ensures c.hold.ensures.held)
     c.hold.ensures.kept
-    (subst (λ xs. (line : List ℕ) → room_size ≤ length line + 1 → IsApart line xs → InStretch s lines.form lines.field line was.reading → PieceEnds lines line xs mid.reading) taken
+    (subst (λ xs. (line : List ℕ) → room_size ≤ length line + 1 → IsApart line xs → InStretch s lines.spelling lines.field line was.reading → PieceEnds lines line xs mid.reading) taken
     c.take_last_piece.ensures.ends)
 
 pub returns-in-None-clause-takes : goal.returns-in-None-clause-takes
@@ -37,7 +37,7 @@ returns-in-None-clause-takes g c =
     (omega (arith, size)) (subst (λ (a : Arriving). IsAtEnd a.to_come) c.find.ensures.kept (c.is_over.ensures.ends c.if-is_over.true))
     (subst (λ (a : Arriving). c.pass-in-None.new.self ≡ record a { waiting = drop (length c.waiting-count.result.now) a.waiting }) c.find.ensures.kept c.pass-in-None.ensures)
     (subst (λ xs. HoldsMore was last xs) taken c.take_last_piece-in-None.ensures.held)
-    (subst (λ xs. (line : List ℕ) → room_size ≤ length line + 1 → IsApart line xs → InStretch s lines.form lines.field line was.reading → PieceEnds lines line xs last.reading) taken
+    (subst (λ xs. (line : List ℕ) → room_size ≤ length line + 1 → IsApart line xs → InStretch s lines.spelling lines.field line was.reading → PieceEnds lines line xs last.reading) taken
     c.take_last_piece-in-None.ensures.ends)
 
 pub returns-in-None-2-clause-takes : goal.returns-in-None-2-clause-takes
@@ -57,5 +57,5 @@ returns-in-None-2-clause-takes g c =
     (subst (λ xs. LeavesLast xs count) waits (record { clean = whole.clean; marked = whole.marked; left = whole.left }))
     (subst (λ xs. HoldsMore was last xs) taken c.take_piece-next.ensures.held)
     (subst
-    (λ xs. (line : List ℕ) → room_size ≤ length line + 1 → IsApart line xs → InStretch s lines.form lines.field line was.reading → InStretch next lines.form lines.field (line ++ xs) last.reading)
+    (λ xs. (line : List ℕ) → room_size ≤ length line + 1 → IsApart line xs → InStretch s lines.spelling lines.field line was.reading → InStretch next lines.spelling lines.field (line ++ xs) last.reading)
     taken c.take_piece-next.ensures.on)

@@ -19,9 +19,9 @@ returns-in-None-clause-records g c =
     let was = c.args.clerk.now in
     let mid = c.stretches.clerk in
     let last = record mid { current = c.next_stretch.new.current } in
-    line_ended c.args.lines was last c.close.new.self c.args.inbox.now c.next_stretch.new.inbox _ _ _ _ _ _ c.close.result
+    line_ended c.args.lines was last c.end_line.new.clerk c.args.inbox.now c.next_stretch.new.inbox _ _ _ _ _ _
     (quiet_then_changed was mid last _ _ _ _ c.stretches.invariant.quiet refl c.next_stretch.ensures.keeps)
-    (line_taken c.args.lines c.stretches.stretch c.args.inbox.now c.stretches.inbox c.next_stretch.new.inbox mid.current c.next_stretch.new.current c.stretches.invariant.takes c.in-None.ensures.takes) c.close.ensures.closes
+    (line_taken c.args.lines c.stretches.stretch c.args.inbox.now c.stretches.inbox c.next_stretch.new.inbox mid.current c.next_stretch.new.current c.stretches.invariant.takes c.in-None.ensures.takes) c.end_line.ensures.ends
 
 pub returns-in-Err-clause-records : goal.returns-in-Err-clause-records
 returns-in-Err-clause-records g c =

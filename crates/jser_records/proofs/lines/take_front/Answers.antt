@@ -35,22 +35,22 @@ key-in_default c none =
     (subst (λ k. IsKeyOf k named) (sym c.take_value_front.ensures.key) (c.take_before.ensures.key none)) (c.take_behind.ensures.key c.in_default.len_at_least)
 
 -- the value
-came-in-empty : (c : goal.After-value_stretch) → IsReady c.args.current.now.reading c.args.lines.form → IsCounted c.args.lines.form c.args.line.now
-    → Came c.take_value_front.new.current.reading (value_in c.args.lines.form (part_of c.args.line.now c.parts_of-parts.result))
+came-in-empty : (c : goal.After-value_stretch) → IsReady c.args.current.now.reading c.args.lines.spelling.form → IsCounted c.args.lines.spelling.form c.args.line.now
+    → Came c.take_value_front.new.current.reading (value_in c.args.lines.spelling (part_of c.args.line.now c.parts_of-parts.result))
 came-in-empty c =
     let parts = c.parts_of-parts.result in
     let last = c.take_value_front.new.current.reading in
     part_came c.args.lines c.args.line.now c.split_at-2.result.0.now parts c.args.current.now.reading c.take_before.new.current.reading last last
-    (c.split_at-2.ensures.front ∙ ap (λ xs. take (parts.to - parts.from) xs) c.split_at.ensures.back) (c.take_before.ensures.ready c.args.lines.form)
+    (c.split_at-2.ensures.front ∙ ap (λ xs. take (parts.to - parts.from) xs) c.split_at.ensures.back) (c.take_before.ensures.ready c.args.lines.spelling.form)
     c.take_value_front.ensures.null c.take_value_front.ensures.text c.take_value_front.ensures.kept c.take_value_front.ensures.key (λ v came. came)
 
-came-in_default : (c : goal.After-take_behind) → IsReady c.args.current.now.reading c.args.lines.form → IsCounted c.args.lines.form c.args.line.now
-    → Came c.take_behind.new.current.reading (value_in c.args.lines.form (part_of c.args.line.now c.parts_of-parts.result))
+came-in_default : (c : goal.After-take_behind) → IsReady c.args.current.now.reading c.args.lines.spelling.form → IsCounted c.args.lines.spelling.form c.args.line.now
+    → Came c.take_behind.new.current.reading (value_in c.args.lines.spelling (part_of c.args.line.now c.parts_of-parts.result))
 came-in_default c =
     let parts = c.parts_of-parts.result in
     part_came c.args.lines c.args.line.now c.split_at-2.result.0.now parts c.args.current.now.reading c.take_before.new.current.reading c.take_value_front.new.current.reading
     c.take_behind.new.current.reading (c.split_at-2.ensures.front ∙ ap (λ xs. take (parts.to - parts.from) xs) c.split_at.ensures.back)
-    (c.take_before.ensures.ready c.args.lines.form) c.take_value_front.ensures.null c.take_value_front.ensures.text c.take_value_front.ensures.kept c.take_value_front.ensures.key
+    (c.take_before.ensures.ready c.args.lines.spelling.form) c.take_value_front.ensures.null c.take_value_front.ensures.text c.take_value_front.ensures.kept c.take_value_front.ensures.key
     c.take_behind.ensures.came
 
 -- whether no more is read
@@ -78,8 +78,8 @@ returns-in-empty-clause-on c = λ long ready none.
     let behind = c.split_at-2.result.1.now in
     let is : behind ≡ drop parts.to line =
     behind_is line c.split_at.result.1.now behind parts c.parts_of-parts.ensures.within c.split_at.ensures.back c.split_at-2.ensures.back in
-    subst (λ s. InStretch s lines.form lines.field line last) (sym c.value_stretch.ensures)
-    (front_in lines.form lines.field line parts last c.parts_of-parts.ensures.value (sym is ∙ none_left behind c.in-empty.len_below) (omega (arith, long)) (key-in-empty c none)
+    subst (λ s. InStretch s lines.spelling lines.field line last) (sym c.value_stretch.ensures)
+    (front_in lines.spelling lines.field line parts last c.parts_of-parts.ensures.value (sym is ∙ none_left behind c.in-empty.len_below) (omega (arith, long)) (key-in-empty c none)
     (came-in-empty c ready)
     (stopped-in-empty c none))
 
@@ -91,7 +91,7 @@ returns-in_default-clause-on c = λ long ready none.
     let behind = c.split_at-2.result.1.now in
     let is : behind ≡ drop parts.to line =
     behind_is line c.split_at.result.1.now behind parts c.parts_of-parts.ensures.within c.split_at.ensures.back c.split_at-2.ensures.back in
-    front_behind lines.form lines.field line parts c.take_behind.new.current.reading c.parts_of-parts.ensures.value (subst (λ xs. 0 < length xs) is c.in_default.len_at_least)
+    front_behind lines.spelling lines.field line parts c.take_behind.new.current.reading c.parts_of-parts.ensures.value (subst (λ xs. 0 < length xs) is c.in_default.len_at_least)
     (key-in_default c none) (came-in_default c ready) (c.take_behind.ensures.stopped c.in_default.len_at_least)
 
 pub returns-in-empty-clause-held : goal.returns-in-empty-clause-held

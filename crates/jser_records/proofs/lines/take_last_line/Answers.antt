@@ -19,9 +19,9 @@ returns-clause-records g c =
     let size = ap length c.waiting-count.ensures in
     let all : length from.waiting ≤ length c.waiting-count.result.now = omega (arith, size) in
     let some : 0 < length from.waiting = search rules in
-    line_ended c.args.lines was (record was { current = c.take_line.new.current }) c.close.new.self from c.pass.new.self _ _ _ _ _ _ c.close.result
+    line_ended c.args.lines was (record was { current = c.take_line.new.current }) c.end_line.new.clerk from c.pass.new.self _ _ _ _ _ _
     (quiet_changed was c.take_line.new.current _ _ c.take_line.ensures.keeps)
     (last_line c.args.lines from c.pass.new.self (length c.waiting-count.result.now) c.take_line.new.current c.requires.none some all c.requires.ends c.pass.ensures
     (subst (λ xs. LineCame c.args.lines xs c.take_line.new.current.reading) (c.front.ensures ∙ take_all _ from.waiting all) c.take_line.ensures.came)
     (subst (λ xs. Holds c.take_line.new.current (xs ++ [])) (c.front.ensures ∙ take_all _ from.waiting all) c.take_line.ensures.held))
-    c.close.ensures.closes
+    c.end_line.ensures.ends

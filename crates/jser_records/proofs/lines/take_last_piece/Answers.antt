@@ -14,7 +14,7 @@ returns-clause-ends c = λ line long apart was.
       bare = bare;
       is_bare = c.without_return.ensures.bare;
       named =
-          stretch_named c.take_text.result lines.form lines.field (line ++ bare) c.take_text.new.current.reading
+          stretch_named c.take_text.result lines.spelling lines.field (line ++ bare) c.take_text.new.current.reading
           (c.take_text.ensures.on lines.field line long (apart_bare lines line c.args.piece.now bare c.without_return.ensures.bare apart)
-          (stretch_held c.args.stretch lines.form lines.field line c.args.current.now.reading c.hold.new.self.reading c.hold.ensures.kept was));
+          (stretch_held c.args.stretch lines.spelling lines.field line c.args.current.now.reading c.hold.new.self.reading c.hold.ensures.kept was));
     }

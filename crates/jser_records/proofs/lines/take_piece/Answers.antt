@@ -9,4 +9,4 @@ pub returns-clause-on : goal.returns-clause-on
 returns-clause-on c = λ line long apart was.
     let lines = c.args.lines in
     c.take_text.ensures.on lines.field line long apart
-    (stretch_held c.args.stretch lines.form lines.field line c.args.current.now.reading c.hold.new.self.reading c.hold.ensures.kept was)
+    (stretch_held c.args.stretch lines.spelling lines.field line c.args.current.now.reading c.hold.new.self.reading c.hold.ensures.kept was)

@@ -7,9 +7,9 @@ use Rattle.jser_records.proofs.lines.take_text.Goals as goal
 
 pub returns-in-Behind-clause-on : goal.returns-in-Behind-clause-on
 returns-in-Behind-clause-on c = λ asked line long apart was.
-    let form = c.args.form in
+    let written = c.args.spelling in
     let old = c.args.current.now.reading in
     let new = c.add_key.new.self in
     let text = c.args.text.now in
-    behind_more form asked line text old new (λ has known. key_longer old new has text c.add_key.ensures known) (λ v came. came_keyed old new v text c.add_key.ensures came)
-    (λ lost. stopped_keyed old new text c.add_key.ensures lost) (subst (λ s. InStretch s form asked line old) c.in-Behind.is was)
+    behind_more written asked line text old new (λ has known. key_longer old new has text c.add_key.ensures known) (λ v came. came_keyed old new v text c.add_key.ensures came)
+    (λ lost. stopped_keyed old new text c.add_key.ensures lost) (subst (λ s. InStretch s written asked line old) c.in-Behind.is was)

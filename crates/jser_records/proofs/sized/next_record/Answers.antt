@@ -1,6 +1,7 @@
-use Rattle.std.proofs.Common.{subst}
+use Rattle.std.proofs.Common.{refl, subst}
 use Rattle.jser_records.specs.declared.layout.Shape.TheVariants as shape
 use Rattle.jser_records.specs.Arriving.{Arriving, ComesMore, HasNone}
+use Rattle.jser_records.specs.Readings.{unknown}
 use Rattle.jser_records.specs.Sized.{at_line}
 use Rattle.jser_records.proofs.RecordLemmas.{records_quiet}
 use Rattle.jser_records.proofs.RoomLemmas.{took_more}
@@ -9,8 +10,8 @@ use Rattle.jser_records.proofs.sized.next_record.Goals as goal
 
 pub returns-in-None-clause-records : goal.returns-in-None-clause-records
 returns-in-None-clause-records g c =
-    too_long_end c.args.clerk.now c.tell_no_length.new.clerk c.args.inbox.now c.find.new.self _ _ _ _ c.find.ensures.kept
-    (subst (λ e. HasNone e c.args.inbox.now.waiting) c.requires.sought (c.find.ensures.none c.in-None.is)) (c.is_full.ensures c.if-is_full.true) c.tell_no_length.ensures
+    too_long_end c.args.clerk.now c.tell_loss.new.clerk c.args.inbox.now c.find.new.self _ _ _ _ c.find.ensures.kept
+    (subst (λ e. HasNone e c.args.inbox.now.waiting) c.requires.sought (c.find.ensures.none c.in-None.is)) (c.is_full.ensures c.if-is_full.true) (c.tell_loss.ensures unknown refl)
 
 pub returns-in-Ok-false-clause-records : goal.returns-in-Ok-false-clause-records
 returns-in-Ok-false-clause-records g c =

@@ -1,6 +1,7 @@
 use Rattle.std.proofs.Common.{[], refl, sym, ap, ◌∙◌}
 use Rattle.jser_records.specs.declared.layout.Shape.TheVariants as shape
 use Rattle.jser_records.specs.Held.{terms_of}
+use Rattle.jser_records.specs.Readings.{unknown}
 use Rattle.jser_records.specs.Sized.{at_line_end, line_end_at}
 use Rattle.jser_records.proofs.RecordLemmas.{front_quiet}
 use Rattle.jser_records.proofs.RoomLemmas.{took_both, took_more, took_none}
@@ -31,5 +32,5 @@ returns-in-There-clause-records g c =
 
 pub returns-in-Missing-clause-records : goal.returns-in-Missing-clause-records
 returns-in-Missing-clause-records g c =
-    missing_read c.args.clerk.now c.reads.clerk c.tell_no_length.new.clerk c.args.inbox.now c.reads.inbox _ _ _ _ _ _ c.args.passed c.is_over.result c.reads.invariant.quiet c.reads.invariant.took
-    (sym c.in-Missing.is ∙ c.line_end.ensures ∙ ap (λ xs. line_end_at xs c.is_over.result) c.waiting.ensures) c.is_over.ensures.ends c.tell_no_length.ensures
+    missing_read c.args.clerk.now c.reads.clerk c.tell_loss.new.clerk c.args.inbox.now c.reads.inbox _ _ _ _ _ _ c.args.passed c.is_over.result c.reads.invariant.quiet c.reads.invariant.took
+    (sym c.in-Missing.is ∙ c.line_end.ensures ∙ ap (λ xs. line_end_at xs c.is_over.result) c.waiting.ensures) c.is_over.ensures.ends (c.tell_loss.ensures unknown refl)

@@ -1,7 +1,7 @@
 use Rattle.std.proofs.Common.{◌≡◌, List, ℕ, [], ◌∷◌, ◌++◌, drop, inr, subst}
 use Rattle.jser_records.specs.Headers.{EndsKey}
 use Rattle.jser_records.proofs.HeaderLemmas.{says_none}
-use Rattle.jser_records.proofs.header.header_of.Goals as goal
+use Rattle.jser_records.proofs.header.length_of.Goals as goal
 
 pub returns-in-None : goal.returns-in-None
 returns-in-None c =
