@@ -16,7 +16,7 @@ _serialcheck() {
     show) options="$form --values --limit --help" ;;
     suggest) options="$form --slack --help" ;;
     list) options="$filter $form --anywhere --help" ;;
-    records) options="$filter --strict $form --frames --sized --zero --field --most --anywhere --refused --json --progress --pass --help" ;;
+    records) options="$filter --strict $form --frames --sized --zero --copy --field --most --anywhere --refused --json --progress --pass --help" ;;
     find) options="$filter --strict --text --all --most --json --progress --carve --help" ;;
     scan) options="$filter --strict $form --anywhere --refused --json --progress --help" ;;
     esac

@@ -151,7 +151,9 @@ fn copy_arg<'a>(alloc: Global) -> Arg<'a>
     Arg::new(alloc, "copy")
         .long("copy")
         .action(ArgAction::SetTrue)
-        .help("In base64 the characters '\\n' are passed over: psql's \\copy writes the lines of encode(.., 'base64') so")
+        .help(
+            "In base64 the characters '\\n' are passed over: psql's \\copy writes the lines of encode(.., 'base64') so",
+        )
 }
 
 /// Which field is the value.

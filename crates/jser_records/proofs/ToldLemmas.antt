@@ -9,6 +9,7 @@ use Rattle.jser_scan.specs.Tallies.{one_more}
 use Rattle.jser_records.specs.declared.answer.Answer.{Answer}
 use Rattle.jser_records.specs.declared.clerk.Clerk.{Clerk}
 use Rattle.jser_records.specs.declared.key.Key.{Key}
+use Rattle.jser_records.specs.declared.sign.Sign.{Sign}
 use Rattle.jser_records.specs.declared.current.Record.{Record}
 use Rattle.jser_records.specs.Keys.{KeepsKey}
 use Rattle.jser_records.specs.Held.{Keeps, may_pass, passes, terms_of}
@@ -102,25 +103,25 @@ pub quiet_then_changed : (a b other : Clerk) (p q s t : SinkState) → Quiet a b
 quiet_then_changed a b other p q s t f same keeps =
     subst (λ z. Quiet a z p q s t) (sym same) (quiet_both a b (record b { current = other.current }) p q q s t t f (quiet_changed b other.current q t keeps))
 
-one_said : (old new : Clerk) (p q s t : SinkState) (key : Key) (units : List ℕ) (result : Answer) (held : List ℕ)
-    → Says old.output new.output p q (λ k. put_of old.how old.passes old.number key units result held k)
-    → Says old.faults new.faults s t (λ k. told_of old.how old.passes old.number key units result k)
+one_said : (old new : Clerk) (p q s t : SinkState) (key : Key) (signs : List Sign) (result : Answer) (held : List ℕ)
+    → Says old.output new.output p q (λ k. put_of old.how old.passes old.number key signs result held k)
+    → Says old.faults new.faults s t (λ k. told_of old.how old.passes old.number key signs result k)
     → new.number ≡ one_more old.number → new.tally ≡ counted old.tally result → new.how ≡ old.how → new.passes ≡ old.passes
-    → SaysAll old new p q s t (ended (record { key = key; units = units; answer = result; held = held }) ∷ [])
-one_said old new p q s t key units result held put told number tally how on =
+    → SaysAll old new p q s t (ended (record { key = key; signs = signs; answer = result; held = held }) ∷ [])
+one_said old new p q s t key signs result held put told number tally how on =
     record { output = put; faults = told; number = number; tally = tally; how = how; passes = on }
 
 -- a record has ended
-pub closes : (old new : Clerk) (p q s t : SinkState) (passed : Bool) (key : Key) (units : List ℕ) (result : Answer) (held : List ℕ)
-    → Says old.output new.output p q (λ k. put_of old.how old.passes old.number key units result held k)
-    → Says old.faults new.faults s t (λ k. told_of old.how old.passes old.number key units result k)
+pub closes : (old new : Clerk) (p q s t : SinkState) (passed : Bool) (key : Key) (signs : List Sign) (result : Answer) (held : List ℕ)
+    → Says old.output new.output p q (λ k. put_of old.how old.passes old.number key signs result held k)
+    → Says old.faults new.faults s t (λ k. told_of old.how old.passes old.number key signs result k)
     → new.number ≡ one_more old.number → new.tally ≡ counted old.tally result → new.how ≡ old.how → new.passes ≡ old.passes
     → held ≡ old.current.held.items → passed ≡ passes result → (passes result ≡ true → may_pass old.current.reading.answer ≡ true)
     → ((value : Value) → Came old.current.reading value → IsFor old.current.reading.judge.rules old.current.reading.most key.is_lost value result)
     → Keeps old.current new.current → KeepsKey old.current.reading.key key result → Closes old new p q s t passed
-closes old new p q s t passed key units result held put told number tally how on kept is may right keeps same = record {
-  entry = record { key = key; units = units; answer = result; held = held };
-  says = one_said old new p q s t key units result held put told number tally how on;
+closes old new p q s t passed key signs result held put told number tally how on kept is may right keeps same = record {
+  entry = record { key = key; signs = signs; answer = result; held = held };
+  says = one_said old new p q s t key signs result held put told number tally how on;
   held = kept;
   passed = is;
   may = may;

@@ -10,6 +10,7 @@ pub mod LineEnds
 pub mod Lines
 pub mod Readings
 pub mod Records
+pub mod Signs
 pub mod Sized
 pub mod Stretches
 pub mod Texts

@@ -10,6 +10,7 @@ use Rattle.jser_records.specs.declared.answer.Answer.{Answer}
 use Rattle.jser_records.specs.declared.answer.Answer.TheVariants as answer
 use Rattle.jser_records.specs.declared.clerk.Clerk.{Clerk}
 use Rattle.jser_records.specs.declared.key.Key.{Key}
+use Rattle.jser_records.specs.declared.sign.Sign.{Sign}
 use Rattle.jser_records.specs.Held.{Keeps, Terms, may_pass, passes}
 use Rattle.jser_records.specs.Keys.{HasNoKey, IsKeyOf, KeepsKey}
 use Rattle.jser_records.specs.Readings.{Came, IsFor, Value}
@@ -26,10 +27,10 @@ counted tally (answer.Cut at total) = one_unread tally
 counted tally answer.ErrorReply = one_unread tally
 counted tally answer.NoLength = one_unread tally
 
--- a record that has ended: its KEY with the units of it, its answer, and the bytes of it that were kept
+-- a record that has ended: its KEY with its signs, its answer, and the bytes of it that were kept
 pub record Entry : Type 0 where
   pub key : Key
-  pub units : List ℕ
+  pub signs : List Sign
   pub answer : Answer
   pub held : List ℕ
 
@@ -42,19 +43,19 @@ abbrev pub KeyTold : Entry → Option (List ℕ) → Type 0
 KeyTold entry has = IsKeyOf entry.key has ⊎ (HasNoKey entry.key × (entry.answer ≡ answer.Checked found.OutOfMemory))
 
 -- its line, or its object
-abbrev pub entry_words : (json : Bool) → (number : ℕ) → Key → (units : List ℕ) → Answer → List ℕ → List ℕ
-entry_words json number key units result k = if json then object_words number key units result k else line_words number key units result k
+abbrev pub entry_words : (json : Bool) → (number : ℕ) → Key → List Sign → Answer → List ℕ → List ℕ
+entry_words json number key signs result k = if json then object_words number key signs result k else line_words number key signs result k
 
 -- What goes to standard output of a record. Where records are handed on, the bytes of one that passes, and nothing of another
 -- one; else its line or its object, unless it passes and only the others are asked for.
-abbrev pub put_of : How → (hands_on : Bool) → (number : ℕ) → Key → (units : List ℕ) → Answer → (held : List ℕ) → List ℕ → List ℕ
-put_of how hands_on number key units result held k =
+abbrev pub put_of : How → (hands_on : Bool) → (number : ℕ) → Key → List Sign → Answer → (held : List ℕ) → List ℕ → List ℕ
+put_of how hands_on number key signs result held k =
     if hands_on then (if passes result then held ++ k else k)
-    else (if how.refused && passes result then k else entry_words how.json number key units result k)
+    else (if how.refused && passes result then k else entry_words how.json number key signs result k)
 
 -- and to standard error: where records are handed on, the line or the object of one that does not pass
-abbrev pub told_of : How → (hands_on : Bool) → (number : ℕ) → Key → (units : List ℕ) → Answer → List ℕ → List ℕ
-told_of how hands_on number key units result k = if hands_on && not (passes result) then entry_words how.json number key units result k else k
+abbrev pub told_of : How → (hands_on : Bool) → (number : ℕ) → Key → List Sign → Answer → List ℕ → List ℕ
+told_of how hands_on number key signs result k = if hands_on && not (passes result) then entry_words how.json number key signs result k else k
 
 -- A record ended; or bytes behind one that passes were handed on with it; or bytes were passed over that are no part of one that
 -- passes.
@@ -75,12 +76,12 @@ number_after number (behind bytes) = number
 number_after number (passed_over bytes) = number
 
 abbrev pub put_event : How → Bool → ℕ → Event → List ℕ → List ℕ
-put_event how hands_on number (ended e) k = put_of how hands_on number e.key e.units e.answer e.held k
+put_event how hands_on number (ended e) k = put_of how hands_on number e.key e.signs e.answer e.held k
 put_event how hands_on number (behind bytes) k = if hands_on then bytes ++ k else k
 put_event how hands_on number (passed_over bytes) k = k
 
 abbrev pub told_event : How → Bool → ℕ → Event → List ℕ → List ℕ
-told_event how hands_on number (ended e) k = told_of how hands_on number e.key e.units e.answer k
+told_event how hands_on number (ended e) k = told_of how hands_on number e.key e.signs e.answer k
 told_event how hands_on number (behind bytes) k = k
 told_event how hands_on number (passed_over bytes) k = k
 

@@ -143,7 +143,7 @@ fn put_record<W: Sink>(
     current: &Record<'_>,
     ended: &Ended,
 )
-    ensures { SaysTo W.gone_out W.has_failed outbox.old outbox.new sink.old sink.new (λ k. put_of how passes number current.now.reading.key ended.now.units.items ended.now.answer current.now.held.items k) }
+    ensures { SaysTo W.gone_out W.has_failed outbox.old outbox.new sink.old sink.new (λ k. put_of how passes number current.now.reading.key ended.now.signs.items ended.now.answer current.now.held.items k) }
 {
     if passes {
         if ended.answer.passes() {
@@ -168,7 +168,7 @@ fn tell_record<W: Sink>(
     current: &Record<'_>,
     ended: &Ended,
 )
-    ensures { SaysTo W.gone_out W.has_failed outbox.old outbox.new sink.old sink.new (λ k. told_of how passes number current.now.reading.key ended.now.units.items ended.now.answer k) }
+    ensures { SaysTo W.gone_out W.has_failed outbox.old outbox.new sink.old sink.new (λ k. told_of how passes number current.now.reading.key ended.now.signs.items ended.now.answer k) }
 {
     if passes && !ended.answer.passes() {
         write_entry(outbox, sink, how.json, number, &current.reading.key, ended);
@@ -186,7 +186,7 @@ fn write_entry<W: Sink>(
     key: &Key,
     ended: &Ended,
 )
-    ensures { SaysTo W.gone_out W.has_failed outbox.old outbox.new sink.old sink.new (λ k. entry_words json number key.now ended.now.units.items ended.now.answer k) }
+    ensures { SaysTo W.gone_out W.has_failed outbox.old outbox.new sink.old sink.new (λ k. entry_words json number key.now ended.now.signs.items ended.now.answer k) }
 {
     if json {
         write_object(
@@ -194,7 +194,7 @@ fn write_entry<W: Sink>(
             sink,
             number,
             key,
-            ended.units.as_slice(),
+            ended.signs.as_slice(),
             &ended.answer,
         );
     } else {
@@ -203,7 +203,7 @@ fn write_entry<W: Sink>(
             sink,
             number,
             key,
-            ended.units.as_slice(),
+            ended.signs.as_slice(),
             &ended.answer,
         );
     }

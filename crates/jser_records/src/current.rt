@@ -10,9 +10,9 @@ ghost use Rattle.jser_records.specs.Texts.{blanked, characters_in, without_space
 
 use crate::answer::Answer;
 use crate::inbox::ROOM;
-use crate::key::units_of_key;
 use crate::layout::Spelling;
 use crate::reading::Reading;
+use crate::sign::{Sign, signs_of};
 use jser_inputs::Form;
 use jser_scan::{Found, Rules, is_plain};
 use memchr::memchr;
@@ -33,8 +33,8 @@ pub(crate) struct Record<'f> {
 /// What is answered of a record that has ended.
 #[derive(Drop)]
 pub(crate) struct Ended {
-    /// The units of its KEY, if they are printed.
-    pub(crate) units: Vec<u16>,
+    /// The signs of its KEY, if they are printed.
+    pub(crate) signs: Vec<Sign>,
     /// The answer.
     pub(crate) answer: Answer,
 }
@@ -148,7 +148,7 @@ impl<'f> Record<'f> {
         self.held.as_slice()
     }
 
-    /// The record has ended: its answer. Where there is no memory for the units of its KEY, that is the answer, and it has no KEY.
+    /// The record has ended: its answer. Where there is no memory for the signs of its KEY, that is the answer, and it has no KEY.
     #[tactic(auto, using(crate::proofs::HeldLemmas::finished_passes, crate::proofs::HeldLemmas::keeps_rules, crate::proofs::ReadingLemmas::finish_for))]
     pub(crate) fn finish(&mut self, json: bool) -> Ended
         ensures held { self.new.held.items ≡ self.old.held.items }
@@ -158,23 +158,23 @@ impl<'f> Record<'f> {
         ensures keeps { Keeps self.old self.new }
     {
         let answer = self.reading.finish();
-        match self.units(json) {
-            Ok(units) => Ended { units, answer },
+        match self.signs(json) {
+            Ok(signs) => Ended { signs, answer },
             Err(_) => {
                 self.reading.key.clear();
                 Ended {
-                    units: Vec::new(self.alloc),
+                    signs: Vec::new(self.alloc),
                     answer: Answer::Checked(Found::OutOfMemory),
                 }
             }
         }
     }
 
-    /// The units of the KEY, if they are printed.
-    fn units(&self, json: bool) -> Result<Vec<u16>, AllocError> {
+    /// The signs of the KEY, if they are printed.
+    fn signs(&self, json: bool) -> Result<Vec<Sign>, AllocError> {
         let bytes = self.reading.key.bytes();
         if json || !is_plain(bytes) {
-            units_of_key(self.alloc, bytes)
+            signs_of(self.alloc, bytes)
         } else {
             Ok(Vec::new(self.alloc))
         }

@@ -4,7 +4,6 @@ ghost use Rattle.std.specs.Prelude.{◌≡◌, ◌≤◌, true, false, vec_capac
 
 use crate::line_end::has_line_end;
 use std::alloc::{AllocError, Global};
-use std::str;
 
 /// How many bytes it has at most.
 const MOST: usize = 65_535;
@@ -81,24 +80,5 @@ impl Key {
         ensures { result.now ≡ self.now.bytes.items }
     {
         self.bytes.as_slice()
-    }
-}
-
-/// The UTF-16 units of a KEY, with U+FFFD for each byte above 7F where it is not UTF-8.
-pub(crate) fn units_of_key(alloc: Global, bytes: &[u8]) -> Result<Vec<u16>, AllocError> {
-    match str::from_utf8(bytes) {
-        Ok(text) => jser_prim::units_of(alloc, text),
-        Err(_) => {
-            let mut units = Vec::new(alloc);
-            for byte in bytes {
-                let unit = if *byte < 0x80 {
-                    u16::from(*byte)
-                } else {
-                    0xFFFD
-                };
-                units.push(unit)?;
-            }
-            Ok(units)
-        }
     }
 }

@@ -18,6 +18,7 @@ mod lines;
 mod parts;
 mod reading;
 mod run;
+mod sign;
 mod sized;
 mod words;
 

@@ -134,12 +134,7 @@ fn take_last_line<R: Source, W: Sink, E: Sink>(
 
 /// A line was taken, and ends.
 #[tactic(auto, using(crate::proofs::LineLemmas::line_closed))]
-fn end_line<W: Sink, E: Sink>(
-    clerk: &mut Clerk<'_>,
-    lines: Lines,
-    output: &mut W,
-    faults: &mut E,
-)
+fn end_line<W: Sink, E: Sink>(clerk: &mut Clerk<'_>, lines: Lines, output: &mut W, faults: &mut E)
     ensures ends { LineEndsTo W.gone_out W.has_failed E.gone_out E.has_failed lines clerk.old clerk.new output.old output.new faults.old faults.new }
 {
     judge_key(&mut clerk.current.reading, lines);
@@ -423,7 +418,12 @@ fn take_last_piece(current: &mut Record<'_>, lines: Lines, stretch: Stretch, pie
     ensures held { HoldsMore current.old current.new piece.now }
 {
     current.hold(piece);
-    let _ = take_text(current, lines.spelling, stretch, without_return(lines, piece));
+    let _ = take_text(
+        current,
+        lines.spelling,
+        stretch,
+        without_return(lines, piece),
+    );
 }
 
 /// Takes the text of a piece.

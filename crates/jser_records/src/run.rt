@@ -13,7 +13,7 @@ use crate::lines::read_lines;
 use crate::sized::read_sized;
 use jser_prim::{Sink, Source};
 use jser_scan::{How, Rules, Tally, print_counts};
-use jser_settings::tell_failure;
+use jser_settings::{FAILED, tell_failure};
 use std::alloc::Global;
 
 /// What is asked of records.
@@ -67,17 +67,14 @@ pub fn run_records<R: Source + Drop, W: Sink, E: Sink>(
     status_of(read, faults)
 }
 
-/// Prints the counts, or what went wrong, and returns the status.
+/// The status, behind what went wrong before the first read or with a write.
 fn status_of<E: Sink>(read: Result<Tally, Trouble>, faults: &mut E) -> u8
     ensures by { MatchResult read (λ tally. result ≡ status_of tally) (λ trouble. result ≡ 3) }
     ensures status { (result ≡ 0) ⊎ ((result ≡ 1) ⊎ (result ≡ 3)) }
 {
     match read {
-        Ok(tally) => {
-            let _ = print_counts(b" records, ", tally, faults);
-            tally.status()
-        }
-        Err(Trouble::Read) => tell_failure(faults, "read failed\n"),
+        Ok(tally) => tally.status(),
+        Err(Trouble::Read) => FAILED,
         Err(Trouble::Write) => tell_failure(faults, "write failed\n"),
         Err(Trouble::Memory) => tell_failure(faults, "out of memory\n"),
     }
@@ -125,9 +122,25 @@ fn read_from<R: Source, W: Sink, E: Sink>(
     ensures { WroteTo W.gone_out W.has_failed asked rules.now (ahead inbox.old) output.old output.new result }
 {
     match Clerk::new(alloc, rules, asked.how, asked.pass, asked.layout.most) {
-        Ok(mut clerk) => read_by(inbox, &mut clerk, asked.layout.shape, output, faults),
+        Ok(mut clerk) => {
+            let read = read_by(inbox, &mut clerk, asked.layout.shape, output, faults);
+            tell_end(read, clerk.tally(), faults);
+            read
+        }
         Err(_) => Err(Trouble::Memory),
     }
+}
+
+/// Tells the counts of all records that were read, also behind a failed read.
+fn tell_end<E: Sink>(read: Result<Tally, Trouble>, tally: Tally, faults: &mut E) {
+    match read {
+        Ok(_) => {}
+        Err(Trouble::Read) => {
+            tell_failure(faults, "read failed\n");
+        }
+        Err(Trouble::Write | Trouble::Memory) => return,
+    }
+    let _ = print_counts(b" records, ", tally, faults);
 }
 
 /// Reads all records by this clerk, and writes all that waits.

@@ -1,13 +1,14 @@
 //! The words of a record's answer: a line, or a JSON object.
 ghost use Rattle.std.specs.Prelude.{◌++◌, ◌∷◌};
 ghost use Rattle.jser_printer.specs.Says.{SaysTo};
-ghost use Rattle.jser_records.specs.Words.{error_member, key_member, label_words, line_words, members, object_words, words_of};
+ghost use Rattle.jser_records.specs.Words.{error_member, hex_member, key_member, key_words, label_words, line_words, members, object_words, words_of};
 
 use crate::answer::Answer;
 use crate::key::Key;
+use crate::sign::{Sign, has_byte, write_signs};
 use jser_prim::{Outbox, Sink};
-use jser_printer::{write, write_decimal, write_quoted};
-use jser_scan::{write_answer, write_count, write_members, write_text};
+use jser_printer::{write, write_decimal, write_hex};
+use jser_scan::{is_plain, write_answer, write_count, write_members};
 
 /// Writes the line of a record, with the KEY that it has.
 pub(crate) fn write_line<W: Sink>(
@@ -15,25 +16,36 @@ pub(crate) fn write_line<W: Sink>(
     sink: &mut W,
     number: u64,
     key: &Key,
-    units: &[u16],
+    signs: &[Sign],
     answer: &Answer,
 )
-    ensures { SaysTo W.gone_out W.has_failed outbox.old outbox.new sink.old sink.new (λ k. line_words number key.now units.now answer.now k) }
+    ensures { SaysTo W.gone_out W.has_failed outbox.old outbox.new sink.old sink.new (λ k. line_words number key.now signs.now answer.now k) }
 {
-    write_label(outbox, sink, number, key, units);
+    write_label(outbox, sink, number, key, signs);
     write(outbox, sink, b"\t");
     write_words(outbox, sink, answer);
     write(outbox, sink, b"\n");
 }
 
 /// Writes the KEY, or the number of a record that has none.
-fn write_label<W: Sink>(outbox: &mut Outbox, sink: &mut W, number: u64, key: &Key, units: &[u16])
-    ensures { SaysTo W.gone_out W.has_failed outbox.old outbox.new sink.old sink.new (λ k. label_words number key.now units.now k) }
+fn write_label<W: Sink>(outbox: &mut Outbox, sink: &mut W, number: u64, key: &Key, signs: &[Sign])
+    ensures { SaysTo W.gone_out W.has_failed outbox.old outbox.new sink.old sink.new (λ k. label_words number key.now signs.now k) }
 {
     if key.is_there() {
-        write_text(outbox, sink, key.bytes(), units);
+        write_key_text(outbox, sink, key.bytes(), signs);
     } else {
         write_decimal(outbox, sink, number);
+    }
+}
+
+/// Writes a KEY as it is where nobody can take more or less for it, else by its signs.
+fn write_key_text<W: Sink>(outbox: &mut Outbox, sink: &mut W, bytes: &[u8], signs: &[Sign])
+    ensures { SaysTo W.gone_out W.has_failed outbox.old outbox.new sink.old sink.new (λ k. key_words bytes.now signs.now k) }
+{
+    if is_plain(bytes) {
+        write(outbox, sink, bytes);
+    } else {
+        write_signs(outbox, sink, false, signs);
     }
 }
 
@@ -66,24 +78,39 @@ pub(crate) fn write_object<W: Sink>(
     sink: &mut W,
     number: u64,
     key: &Key,
-    units: &[u16],
+    signs: &[Sign],
     answer: &Answer,
 )
-    ensures { SaysTo W.gone_out W.has_failed outbox.old outbox.new sink.old sink.new (λ k. object_words number key.now units.now answer.now k) }
+    ensures { SaysTo W.gone_out W.has_failed outbox.old outbox.new sink.old sink.new (λ k. object_words number key.now signs.now answer.now k) }
 {
     write_count(outbox, sink, b"{\"record\":", number);
-    write_key(outbox, sink, key, units);
+    write_key(outbox, sink, key, signs);
     write_answer_members(outbox, sink, answer);
     write(outbox, sink, b"}\n");
 }
 
 /// Writes the KEY, if there is one.
-fn write_key<W: Sink>(outbox: &mut Outbox, sink: &mut W, key: &Key, units: &[u16])
-    ensures { SaysTo W.gone_out W.has_failed outbox.old outbox.new sink.old sink.new (λ k. key_member key.now units.now k) }
+fn write_key<W: Sink>(outbox: &mut Outbox, sink: &mut W, key: &Key, signs: &[Sign])
+    ensures { SaysTo W.gone_out W.has_failed outbox.old outbox.new sink.old sink.new (λ k. key_member key.now signs.now k) }
 {
     if key.is_there() {
         write(outbox, sink, b",\"key\":");
-        write_quoted(outbox, sink, units);
+        write_signs(outbox, sink, true, signs);
+        write_key_hex(outbox, sink, key.bytes(), signs);
+    } else {
+        write(outbox, sink, b"");
+    }
+}
+
+/// Writes all bytes of a KEY that is no UTF-8.
+#[tactic(auto, using(crate::proofs::WordLemmas::says_hex, crate::proofs::WordLemmas::says_no_hex))]
+fn write_key_hex<W: Sink>(outbox: &mut Outbox, sink: &mut W, bytes: &[u8], signs: &[Sign])
+    ensures { SaysTo W.gone_out W.has_failed outbox.old outbox.new sink.old sink.new (λ k. hex_member bytes.now signs.now k) }
+{
+    if has_byte(signs) {
+        write(outbox, sink, b",\"key_hex\":\"");
+        write_hex(outbox, sink, bytes);
+        write(outbox, sink, b"\"");
     } else {
         write(outbox, sink, b"");
     }

@@ -9,7 +9,7 @@ use jser_inputs::Form;
 use jser_line::Records;
 use jser_prim::{FromRead, Sink};
 use jser_records::{Asked, Layout, Lines, Shape, Spelling, run_records};
-use jser_scan::{How, Rules};
+use jser_scan::{How, Rules, Tally, print_counts};
 
 /// How many bytes of a record are read at most, where that is not said.
 const MOST: u64 = 16_777_216;
@@ -81,7 +81,11 @@ fn check_under<W: Sink, E: Sink>(
             let source = FromRead::new(Counted::new(opened, progress));
             run_records(alloc, rules, asked, source, output, faults)
         }
-        Err(_) => tell_unopened(alloc, file, faults),
+        Err(_) => {
+            let status = tell_unopened(alloc, file, faults);
+            let _ = print_counts(b" records, ", Tally::new(), faults);
+            status
+        }
     }
 }
 
