@@ -298,7 +298,7 @@ pub(crate) fn filter_with<E: Sink>(
 ) -> Result<Filter, u8>
     ensures given { IfSome filters.now.text (λ text. IfOk result (λ filter. filter.pieces ≡ pieces_of (utf16_units (string_bytes text)))) }
     ensures plain { filters.now.modules ≡ None → IfOk result (λ filter. filter.modules ≡ []) }
-    ensures { IfErr result (λ status. (status ≡ 2) ⊎ (status ≡ 3)) }
+    ensures status { IfErr result (λ status. (status ≡ 2) ⊎ (status ≡ 3)) }
 {
     match filter_text(rt, filters, faults) {
         Ok(text) => filter_reading(rt, filters, text.as_str(), faults),
@@ -313,7 +313,7 @@ pub(crate) fn filter_text<E: Sink>(
     faults: &mut E,
 ) -> Result<String, u8>
     ensures given { IfSome filters.now.text (λ text. IfOk result (λ made. string_bytes made ≡ string_bytes text)) }
-    ensures { IfErr result (λ status. (status ≡ 2) ⊎ (status ≡ 3)) }
+    ensures status { IfErr result (λ status. (status ≡ 2) ⊎ (status ≡ 3)) }
 {
     let alloc = rt.alloc();
     if let Some(text) = &filters.text {
@@ -354,7 +354,7 @@ pub(crate) fn filter_reading<E: Sink>(
 ) -> Result<Filter, u8>
     ensures pieces { IfOk result (λ filter. filter.pieces ≡ pieces_of (utf16_units text.now)) }
     ensures plain { filters.now.modules ≡ None → IfOk result (λ filter. filter.modules ≡ []) }
-    ensures { IfErr result (λ status. (status ≡ 2) ⊎ (status ≡ 3)) }
+    ensures status { IfErr result (λ status. (status ≡ 2) ⊎ (status ≡ 3)) }
 {
     let filter = match filter_of(rt.alloc(), text, faults) {
         Ok(filter) => filter,
