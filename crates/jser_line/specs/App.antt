@@ -10,7 +10,7 @@ use Rattle.jser_line.specs.declared.line.Line.{Line}
 use Rattle.jser_line.specs.declared.line.Line.TheVariants as line
 use Rattle.jser_line.specs.declared.line.LineFault.{LineFault}
 use Rattle.jser_line.specs.declared.line.LineFault.TheVariants as fault
-use Rattle.jser_line.specs.Args.{FilterWords, all_rule, anywhere_rule, carve_rule, copy_rule, field_rule, file_rule, files_rule, filters_asked, filters_in, forms_in, frames_rule, is_true, json_rule, limit_rule, most_rule, pass_rule, paths_rule, progress_rule, refused_rule, sized_rule, slack_rule, text_in, text_rule, texts_in, values_rule, with_filter_rules, with_form_rules, with_strict_filter_rules, zero_rule}
+use Rattle.jser_line.specs.Args.{FilterWords, all_rule, anywhere_rule, carve_rule, copy_rule, effort_rule, field_rule, file_rule, files_rule, filters_asked, filters_in, forms_in, frames_rule, is_true, json_rule, limit_rule, most_files_rule, most_rule, pass_rule, paths_rule, progress_rule, refused_rule, sized_rule, slack_rule, text_in, text_rule, texts_in, values_rule, with_filter_rules, with_form_rules, with_strict_filter_rules, zero_rule}
 
 -- [--filter T | --filter-file F] [--modules M] [--strict] [--hex | --base64 | --base64url] [--anywhere] FILE
 abbrev pub with_check_rules : App → App
@@ -61,15 +61,16 @@ with_more_rules app = with_rule (with_answer_rules (with_layout_rules app)) pass
 abbrev pub records_app : App
 records_app = with_rule (with_more_rules (with_form_rules (with_strict_filter_rules (new_app (codes "records"))))) file_rule
 
--- [--json] [--progress] [--carve DIR]
+-- [--json] [--progress] [--carve DIR] [--most-files N]
 abbrev pub with_find_answer_rules : App → App
-with_find_answer_rules app = with_rule (with_rule (with_rule app json_rule) progress_rule) carve_rule
+with_find_answer_rules app = with_rule (with_rule (with_rule (with_rule app json_rule) progress_rule) carve_rule) most_files_rule
 
--- [--text] [--all] [--most N] [--json] [--progress] [--carve DIR]
+-- [--text] [--all] [--most N] [--effort N] [--json] [--progress] [--carve DIR] [--most-files N]
 abbrev pub with_find_rules : App → App
-with_find_rules app = with_find_answer_rules (with_rule (with_rule (with_rule app text_rule) all_rule) most_rule)
+with_find_rules app = with_find_answer_rules (with_rule (with_rule (with_rule (with_rule app text_rule) all_rule) most_rule) effort_rule)
 
--- serialcheck find [--filter T | --filter-file F] [--modules M] [--strict] [--text] [--all] [--most N] [--json] [--progress] [--carve DIR] FILE..
+-- serialcheck find [--filter T | --filter-file F] [--modules M] [--strict] [--text] [--all] [--most N] [--effort N] [--json] [--progress]
+-- [--carve DIR] [--most-files N] FILE..
 abbrev pub find_app : App
 find_app = with_rule (with_find_rules (with_strict_filter_rules (new_app (codes "find")))) files_rule
 
@@ -111,9 +112,11 @@ pub record FindAsked : Type 0 where
   pub text : Bool
   pub all : Bool
   pub most : Option Text
+  pub effort : Option Text
   pub json : Bool
   pub progress : Bool
   pub carve : Option Text
+  pub most_files : Option Text
   pub files : List Text
 
 -- what the words ask for
@@ -176,9 +179,11 @@ find_in rows = find (record {
   text = is_true (first_of (codes "text") rows);
   all = is_true (first_of (codes "all") rows);
   most = first_of (codes "most") rows;
+  effort = first_of (codes "effort") rows;
   json = is_true (first_of (codes "json") rows);
   progress = is_true (first_of (codes "progress") rows);
   carve = first_of (codes "carve") rows;
+  most_files = first_of (codes "most-files") rows;
   files = texts_in rows (codes "file");
 })
 
@@ -225,9 +230,11 @@ find_asked words = record {
   text = words.text;
   all = words.all;
   most = option_map string_bytes words.most;
+  effort = option_map string_bytes words.effort;
   json = words.json;
   progress = words.progress;
   carve = option_map string_bytes words.carve;
+  most_files = option_map string_bytes words.most_files;
   files = map string_bytes words.files.items;
 }
 

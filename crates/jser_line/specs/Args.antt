@@ -41,6 +41,12 @@ text_rule = flag_rule (codes "text")
 abbrev pub carve_rule : Rule
 carve_rule = option_rule (codes "carve")
 
+abbrev pub effort_rule : Rule
+effort_rule = option_rule (codes "effort")
+
+abbrev pub most_files_rule : Rule
+most_files_rule = option_rule (codes "most-files")
+
 abbrev pub slack_rule : Rule
 slack_rule = option_rule (codes "slack")
 

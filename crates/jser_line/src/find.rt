@@ -1,9 +1,9 @@
-//! `serialcheck find [--filter T | --filter-file F] [--modules M] [--strict] [--text] [--all] [--most N] [--json] [--progress]
-//! [--carve DIR] FILE..`
+//! `serialcheck find [--filter T | --filter-file F] [--modules M] [--strict] [--text] [--all] [--most N] [--effort N] [--json]
+//! [--progress] [--carve DIR] [--most-files N] FILE..`
 ghost use Rattle.std.specs.Prelude.{◌≡◌, IfOk, false};
 ghost use Rattle.clap.specs.Words.{app_of, rule_of, rows_of, found_of};
 ghost use Rattle.clap.specs.declared.Command.{out-Command};
-ghost use Rattle.jser_line.specs.Args.{all_rule, carve_rule, most_rule, text_rule};
+ghost use Rattle.jser_line.specs.Args.{all_rule, carve_rule, effort_rule, most_files_rule, most_rule, text_rule};
 ghost use Rattle.jser_line.specs.App.{find_app, find_in, line_asks, with_find_answer_rules, with_find_rules};
 
 use crate::args::{Filters, filters_of, is_set, texts_of, value_of, with_strict_filters};
@@ -26,12 +26,16 @@ pub struct Find {
     pub all: bool,
     /// How many bytes of a stream are read at most, if that is said.
     pub most: Option<String>,
+    /// How many bytes are read for each byte of a file, if that is said.
+    pub effort: Option<String>,
     /// Whether JSON is printed.
     pub json: bool,
     /// Whether standard error is told how far it is.
     pub progress: bool,
     /// The folder to which the streams are written, if one is named.
     pub carve: Option<String>,
+    /// How many files are written at most, if that is said.
+    pub most_files: Option<String>,
     /// The files, or `-` for standard input.
     pub files: Vec<String>,
 }
@@ -70,7 +74,8 @@ fn with_finds<'a>(alloc: Global, command: Command<'a>) -> Result<Command<'a>, Al
     let text = command.arg(text_arg(alloc))?;
     let all = text.arg(all_arg(alloc))?;
     let most = all.arg(most_arg(alloc))?;
-    with_find_answers(alloc, most)
+    let effort = most.arg(effort_arg(alloc))?;
+    with_find_answers(alloc, effort)
 }
 
 /// The command, with the arguments that say how they are told, and where they are written.
@@ -81,7 +86,8 @@ fn with_find_answers<'a>(alloc: Global, command: Command<'a>) -> Result<Command<
 {
     let json = command.arg(json_arg(alloc))?;
     let progress = json.arg(progress_arg(alloc))?;
-    progress.arg(carve_arg(alloc))
+    let carve = progress.arg(carve_arg(alloc))?;
+    carve.arg(most_files_arg(alloc))
 }
 
 /// Whether streams in base64 and hexadecimal are told too.
@@ -116,13 +122,33 @@ fn most_arg<'a>(alloc: Global) -> Arg<'a>
     )
 }
 
+/// How many bytes are read for each byte of a file.
+fn effort_arg<'a>(alloc: Global) -> Arg<'a>
+    ensures rule { rule_of result ≡ effort_rule }
+    ensures local { result.global ≡ false }
+{
+    Arg::new(alloc, "effort").long("effort").help(
+        "Reads at most N bytes for each byte of a file, and 1048576 more; 64 where this is not given. What was not searched is reported",
+    )
+}
+
 /// The folder to which the streams are written.
 fn carve_arg<'a>(alloc: Global) -> Arg<'a>
     ensures rule { rule_of result ≡ carve_rule }
     ensures local { result.global ≡ false }
 {
     Arg::new(alloc, "carve").long("carve").help(
-        "Writes each stream to the new file FROM.ser of this folder, which is there",
+        "Writes each stream to the new file INPUT-NAME-START.ser of this folder, which is made where it is missing",
+    )
+}
+
+/// How many files are written at most.
+fn most_files_arg<'a>(alloc: Global) -> Arg<'a>
+    ensures rule { rule_of result ≡ most_files_rule }
+    ensures local { result.global ≡ false }
+{
+    Arg::new(alloc, "most-files").long("most-files").help(
+        "With --carve: writes at most so many files; 10000 where this is not given",
     )
 }
 
@@ -132,7 +158,9 @@ pub(crate) fn find_line(alloc: Global, matches: &ArgMatches<'_>) -> Result<Line,
 {
     let filters = filters_of(alloc, matches)?;
     let most = value_of(alloc, matches, "most")?;
+    let effort = value_of(alloc, matches, "effort")?;
     let carve = value_of(alloc, matches, "carve")?;
+    let most_files = value_of(alloc, matches, "most-files")?;
     let files = texts_of(alloc, matches, "file")?;
     Ok(Line::Find(Find {
         filters,
@@ -140,9 +168,11 @@ pub(crate) fn find_line(alloc: Global, matches: &ArgMatches<'_>) -> Result<Line,
         text: is_set(matches, "text"),
         all: is_set(matches, "all"),
         most,
+        effort,
         json: is_set(matches, "json"),
         progress: is_set(matches, "progress"),
         carve,
+        most_files,
         files,
     }))
 }
