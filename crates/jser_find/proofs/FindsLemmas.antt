@@ -1,10 +1,11 @@
 -- A search that goes on behind each stream that it found.
-use Rattle.std.proofs.Common.{◌≡◌, ℕ, ◌+◌, ◌-◌, ◌≤◌, List, [], ◌∷◌, ◌++◌, length, take, drop, get_or, Option, Some, None, refl, sym, ap, subst, ◌∙◌, arith, add_assoc, length-drop, length-take, get_or-drop, drop-drop}
+use Rattle.std.proofs.Common.{◌≡◌, ℕ, ◌+◌, ◌-◌, ◌≤◌, max, List, [], ◌∷◌, ◌++◌, length, take, drop, get_or, Option, Some, None, refl, sym, ap, subst, ◌∙◌, arith, add_assoc, length-drop, length-take, get_or-drop}
 use Rattle.memchr.specs.Find.{Nowhere}
 use Rattle.jser_reader.specs.Gates.{open_gate}
 use Rattle.jser_reader.specs.WholeContents.{IsWhole}
 use Rattle.jser_find.specs.declared.finder.Find.{Find}
-use Rattle.jser_find.specs.Finds.{FindsNext, HasFound, HasHeaderAt, HasNoHeaderFrom, IsFindFrom, IsFirstFrom, LeadTo, LiesIn, Searching, place_behind}
+use Rattle.jser_find.specs.declared.next.Next.TheVariants as next
+use Rattle.jser_find.specs.Finds.{FindsNext, HasFound, HasHeaderAt, HasNoHeaderFrom, IsFindFrom, IsFirstHeader, LeadTo, Searching, place_behind}
 
 -- ---- places in what is left are places in all bytes
 
@@ -37,34 +38,37 @@ none_in bytes at fits none =
     let same : at + (length (drop at bytes) + 1) ≡ length bytes + 1 = omega arith in
     subst (Nowhere (HasHeaderAt bytes) at) same (nowhere_in bytes at (length (drop at bytes) + 1) none)
 
-pub find_in : (most : ℕ) (bytes : List ℕ) (at : ℕ) (found find : Find) → at ≤ length bytes → find.from ≡ at + found.from → find.len ≡ found.len
-    → IsFindFrom most (drop at bytes) 0 found → IsFindFrom most bytes at find
-find_in most bytes at found find fits from len is =
-    let l = length-drop at bytes in
-    let high = is.first.high in
-    record {
-      first = record {
-        low = omega arith;
-        high = omega arith;
-        before = subst (Nowhere (HasHeaderAt bytes) at) (sym from) (nowhere_in bytes at found.from is.first.before);
-      };
-      header = subst (HasHeaderAt bytes) (sym from) (header_in bytes at found.from is.header);
-      longest = subst (λ n. IsWhole open_gate (take most (drop find.from bytes)) n) (sym len)
-          (subst (λ xs. IsWhole open_gate (take most xs) found.len) (drop-drop found.from at bytes ∙ ap (λ n. drop n bytes) (sym from)) is.longest);
-    }
+header_moves : (bytes : List ℕ) (place : ℕ) (found : Option ℕ) (at : ℕ) → place ≤ length bytes → found ≡ Some at → IsFirstHeader (drop place bytes) 0 found
+    → IsFirstHeader bytes place (Some (place + at))
+header_moves bytes place found at fits same first =
+    let is : IsFirstHeader (drop place bytes) 0 (Some at) = subst (IsFirstHeader (drop place bytes) 0) same first in
+    let l = length-drop place bytes in
+    let high = is.0.high in
+    (record { low = omega arith; high = omega arith; before = nowhere_in bytes place at is.0.before }, header_in bytes place at is.1)
+
+-- what a search sees of its bytes from its place on
+pub header_here : (search : Searching) (bytes rest : List ℕ) (place at : ℕ) (found : Option ℕ) → bytes ≡ search.bytes → place ≡ search.place → place ≤ length bytes
+    → rest ≡ drop place bytes → found ≡ Some at → IsFirstHeader rest 0 found → IsFirstHeader search.bytes search.place (Some (place + at))
+header_here search bytes rest place at found same here fits is one first =
+    subst (λ n. IsFirstHeader search.bytes n (Some (place + at))) here
+    (subst (λ xs. IsFirstHeader xs place (Some (place + at))) same (header_moves bytes place found at fits one (subst (λ xs. IsFirstHeader xs 0 found) is first)))
+
+pub no_header_here : (search : Searching) (bytes rest : List ℕ) (place : ℕ) (found : Option ℕ) → bytes ≡ search.bytes → place ≡ search.place → place ≤ length bytes
+    → rest ≡ drop place bytes → found ≡ None → IsFirstHeader rest 0 found → IsFirstHeader search.bytes search.place None
+no_header_here search bytes rest place found same here fits is none first =
+    subst (λ n. IsFirstHeader search.bytes n None) here
+    (subst (λ xs. IsFirstHeader xs place None) same
+    (none_in bytes place fits (subst (IsFirstHeader (drop place bytes) 0) none (subst (λ xs. IsFirstHeader xs 0 found) is first))))
 
 -- ---- a find lies in the bytes
 
-pub find_lies : (most : ℕ) (bytes : List ℕ) (place : ℕ) (find : Find) → IsFindFrom most bytes place find → place_behind find ≤ length bytes
-find_lies most bytes place find is =
-    let f = is.header.fits in
-    let w = is.longest.within in
-    let t = length-take most (drop find.from bytes) in
-    let d = length-drop find.from bytes in
+pub find_lies : (most : ℕ) (bytes : List ℕ) (from len : ℕ) → from + 4 ≤ length bytes → IsWhole open_gate (take most (drop from bytes)) len
+    → from + max len 1 ≤ length bytes
+find_lies most bytes from len fits is =
+    let w = is.within in
+    let t = length-take most (drop from bytes) in
+    let d = length-drop from bytes in
     omega arith
-
-pub lies_in : (bytes : List ℕ) (find : Find) → place_behind find ≤ length bytes → LiesIn bytes find
-lies_in bytes find fits = omega arith
 
 -- ---- one find after another
 
@@ -73,17 +77,12 @@ lead_more : (most : ℕ) (bytes : List ℕ) (from : ℕ) (finds : List Find) (pl
 lead_more most bytes from [] place find e is = (subst (λ n. IsFindFrom most bytes n find) (sym e) is, refl)
 lead_more most bytes from (first ∷ finds) place find h is = (h.0, lead_more most bytes (place_behind first) finds place find h.1 is)
 
-pub found_one : (old new : Searching) (found find : Find) (finds : List Find) → old.place ≤ length old.bytes → IsFindFrom old.most (drop old.place old.bytes) 0 found
-    → find.from ≡ old.place + found.from → find.len ≡ found.len → new ≡ record old { place = place_behind find }
-    → HasFound old finds → FindsNext old new finds (Some find)
-found_one old new found find finds fits is from len goes have =
-    subst (λ search. HasFound search (finds ++ (find ∷ []))) (sym goes)
-    (lead_more old.most old.bytes 0 finds old.place find have (find_in old.most old.bytes old.place found find fits from len is))
+pub found_one : (search new : Searching) (find : Find) (finds : List Find) → IsFirstHeader search.bytes search.place (Some find.from)
+    → IsWhole open_gate (take search.most (drop find.from search.bytes)) find.len → new ≡ record search { place = place_behind find }
+    → HasFound search finds → FindsNext search new finds (next.Found find)
+found_one search new find finds first is goes have =
+    subst (λ other. HasFound other (finds ++ (find ∷ []))) (sym goes)
+    (lead_more search.most search.bytes 0 finds search.place find have (record { first = first.0; header = first.1; longest = is }))
 
-pub found_all : (old new : Searching) (next : Option Find) (finds : List Find) → old.place ≤ length old.bytes
-    → IsFirstFrom old.most (drop old.place old.bytes) 0 next → next ≡ None → HasFound old finds → FindsNext old new finds None
-found_all old new next finds fits first none have = record {
-  end = old.place;
-  lead = have;
-  none_behind = none_in old.bytes old.place fits (subst (IsFirstFrom old.most (drop old.place old.bytes) 0) none first);
-}
+pub found_all : (search new : Searching) (finds : List Find) → IsFirstHeader search.bytes search.place None → HasFound search finds → FindsNext search new finds next.End
+found_all search new finds none have = record { end = search.place; lead = have; none_behind = none }

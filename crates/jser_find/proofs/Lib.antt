@@ -1,5 +1,7 @@
 pub mod AnswerLemmas
+pub mod BudgetLemmas
 pub mod BytesLemmas
+pub mod DecidingLemmas
 pub mod FindLemmas
 pub mod FindsLemmas
 pub mod FrontLemmas

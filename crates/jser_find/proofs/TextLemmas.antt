@@ -1,5 +1,5 @@
 -- The longest stream that a text spells.
-use Rattle.std.proofs.Common.{◌≡◌, ℕ, ◌+◌, ◌-◌, ◌<◌, ◌≤◌, max, List, ◌++◌, length, take, drop, Option, Some, None, sym, ap, subst, ◌∙◌, arith, length-take, length-take-le, take_all, take-take, take-add, take-append-drop}
+use Rattle.std.proofs.Common.{◌≡◌, ℕ, ◌+◌, ◌<◌, ◌≤◌, ◌⊎◌, inl, inr, max, List, length, take, drop, Option, Some, None, refl, sym, ap, subst, ◌∙◌, arith, length-take, length-take-le, take_all, take-take}
 use Rattle.memchr.specs.Find.{Nowhere}
 use Rattle.jser_grammar.specs.Parts.{IsBytes}
 use Rattle.jser_reader.specs.Gates.{open_gate}
@@ -9,9 +9,13 @@ use Rattle.jser_find.specs.declared.start.Start.{Start}
 use Rattle.jser_find.specs.declared.texts.TextFind.{TextFind}
 use Rattle.jser_find.specs.Spelled.{IsIn, bytes_from, place_until}
 use Rattle.jser_find.specs.Starts.{HasHeaderTextAt, IsFirstStart}
-use Rattle.jser_find.specs.Texts.{FindsText, IsLongest, TextSearch, form_of, place_after}
+use Rattle.jser_find.specs.declared.finder.Whole.{Whole}
+use Rattle.jser_find.specs.declared.longest.Turn.{Turn}
+use Rattle.jser_find.specs.declared.longest.Turn.TheVariants as turn
+use Rattle.jser_find.specs.Budgets.{deciding}
+use Rattle.jser_find.specs.Texts.{IsCut, IsLongest, IsLongestIn, IsSpentAt, IsTextFindAt, IsTurn, TextSearch, form_of, place_after}
+use Rattle.jser_find.proofs.BudgetLemmas.{front_left, front_over, front_reads, front_stays}
 use Rattle.jser_find.proofs.BytesLemmas.{spells_bytes}
-use Rattle.jser_verdict.proofs.ByteLists.{bytes_left, bytes_right}
 
 -- ---- a front that decides
 
@@ -27,41 +31,63 @@ longest_by most n count bytes front stream is within first whole =
       is = first ∙ ap (take n) is ∙ take-take n count bytes (omega arith) ∙ ap (λ m. take m bytes) (sym size);
     }
 
-pub longest_sure : (most n count : ℕ) (bytes front stream : List ℕ) → front ≡ take count bytes → count ≤ most → n ≤ length front → stream ≡ take n front
-    → IsBytes bytes → StaysWhole open_gate front n → IsLongest most bytes stream
-longest_sure most n count bytes front stream is few within first are stays =
-    let after : List ℕ = take (most - count) (drop count bytes) in
-    let left : IsBytes (drop count bytes) = bytes_right (take count bytes) (drop count bytes) (subst IsBytes (sym (take-append-drop count bytes)) are) in
-    let after_are : IsBytes after =
-    bytes_left after (drop (most - count) (drop count bytes)) (subst IsBytes (sym (take-append-drop (most - count) (drop count bytes))) left) in
-    let sum : count + (most - count) ≡ most = omega arith in
-    let all : front ++ after ≡ take most bytes = ap (λ xs. xs ++ after) is ∙ sym (take-add count (most - count) bytes) ∙ ap (λ m. take m bytes) sum in
-    longest_by most n count bytes front stream is within first (subst (λ xs. IsWhole open_gate xs n) all (stays after after_are))
+-- the stream is cut off the front where the budget lasts
+turn_known : (most left count : ℕ) (bytes front : List ℕ) (whole : Whole) (result : Turn) → front ≡ take count bytes → IsWhole open_gate front whole.len
+    → IsWhole open_gate (take most bytes) whole.len → whole.read ≡ deciding (take most bytes) → IsCut front whole left result → IsTurn most left bytes result
+turn_known most left count bytes front whole (turn.Found longest) is here all read cut =
+    (longest_by most whole.len count bytes front longest.stream.items is here.within cut.0 all, cut.1 ∙ read, subst (λ n. n ≤ left) (sym cut.1) cut.2)
+turn_known most left count bytes front whole turn.Over is here all read cut = subst (λ n. left < n) read cut
+turn_known most left count bytes front whole turn.More is here all read cut = absurd cut
 
-pub longest_all : (most n count : ℕ) (bytes front stream : List ℕ) → front ≡ take count bytes → count ≤ most → n ≤ length front → stream ≡ take n front
-    → length front < count → IsWhole open_gate front n → IsLongest most bytes stream
-longest_all most n count bytes front stream is few within first short whole =
+-- a front that is no longer than the most is one of the first so many bytes
+front_of_most : (most count : ℕ) (bytes front : List ℕ) → front ≡ take count bytes → count ≤ most → take count (take most bytes) ≡ front
+front_of_most most count bytes front is few = take-take count most bytes few ∙ sym is
+
+-- ---- a front decides
+
+pub turn_sure : (most left count : ℕ) (bytes front slice : List ℕ) (whole : Whole) (result : Turn) → slice ≡ front → front ≡ take count bytes → count ≤ most
+    → IsWhole open_gate slice whole.len → whole.read ≡ deciding slice → (whole.read < length slice → StaysWhole open_gate slice whole.len)
+    → whole.read < length front → IsBytes bytes → IsCut front whole left result → IsTurn most left bytes result
+turn_sure most left count bytes front slice whole result same is few here read sure less are cut =
+    let B : List ℕ = take most bytes in
+    let of_all : take count B ≡ slice = front_of_most most count bytes front is few ∙ sym same in
+    let B_are : IsBytes B = front_left most bytes are in
+    let shorter : whole.read < length slice = subst (λ xs. whole.read < length xs) (sym same) less in
+    let read_here : whole.read ≡ deciding (take count B) = subst (λ xs. whole.read ≡ deciding xs) (sym of_all) read in
+    let less_here : deciding (take count B) < length (take count B) =
+    subst (λ xs. deciding xs < length xs) (sym of_all) (subst (λ n. n < length slice) read shorter) in
+    turn_known most left count bytes front whole result is (subst (λ xs. IsWhole open_gate xs whole.len) same here)
+    (front_stays count B whole.len B_are (subst (λ xs. StaysWhole open_gate xs whole.len) (sym of_all) (sure shorter)))
+    (read_here ∙ sym (front_reads count B B_are less_here)) cut
+
+-- ---- the text ends, or the most is read
+
+all_in : (most count : ℕ) (bytes front : List ℕ) → front ≡ take count bytes → count ≤ most → (length front < count) ⊎ (most ≤ count) → front ≡ take most bytes
+all_in most count bytes front is few (inl short) =
     let size = ap (λ xs. length xs) is ∙ length-take count bytes in
-    let all : front ≡ take most bytes = is ∙ take_all count bytes (omega arith) ∙ sym (take_all most bytes (omega arith)) in
-    longest_by most n count bytes front stream is within first (subst (λ xs. IsWhole open_gate xs n) all whole)
+    is ∙ take_all count bytes (omega arith) ∙ sym (take_all most bytes (omega arith))
+all_in most count bytes front is few (inr full) = let same : count ≡ most = omega arith in is ∙ ap (λ m. take m bytes) same
 
-pub longest_most : (most n count : ℕ) (bytes front stream : List ℕ) → front ≡ take count bytes → count ≤ most → n ≤ length front → stream ≡ take n front
-    → most ≤ count → IsWhole open_gate front n → IsLongest most bytes stream
-longest_most most n count bytes front stream is few within first full whole =
-    let same : count ≡ most = omega arith in
-    longest_by most n count bytes front stream is within first (subst (λ xs. IsWhole open_gate xs n) (is ∙ ap (λ m. take m bytes) same) whole)
+pub turn_all : (most left count : ℕ) (bytes front slice : List ℕ) (whole : Whole) (result : Turn) → slice ≡ front → front ≡ take count bytes → count ≤ most
+    → IsWhole open_gate slice whole.len → whole.read ≡ deciding slice → (length front < count) ⊎ (most ≤ count) → IsCut front whole left result
+    → IsTurn most left bytes result
+turn_all most left count bytes front slice whole result same is few here read ends cut =
+    let all : slice ≡ take most bytes = same ∙ all_in most count bytes front is few ends in
+    turn_known most left count bytes front whole result is (subst (λ xs. IsWhole open_gate xs whole.len) same here)
+    (subst (λ xs. IsWhole open_gate xs whole.len) all here) (read ∙ ap (λ xs. deciding xs) all) cut
 
-pub sure_in : (most n count : ℕ) (bytes front slice stream : List ℕ) → slice ≡ front → front ≡ take count bytes → count ≤ most → IsWhole open_gate slice n
-    → StaysWhole open_gate slice n → IsBytes bytes → stream ≡ take n front → IsLongest most bytes stream
-sure_in most n count bytes front slice stream same is few whole stays are first =
-    let here : IsWhole open_gate front n = subst (λ xs. IsWhole open_gate xs n) same whole in
-    longest_sure most n count bytes front stream is few here.within first are (subst (λ xs. StaysWhole open_gate xs n) same stays)
+-- ---- a front of more than is left does not
 
-pub most_in : (most n count : ℕ) (bytes front slice stream : List ℕ) → slice ≡ front → front ≡ take count bytes → count ≤ most → IsWhole open_gate slice n
-    → most ≤ count → stream ≡ take n front → IsLongest most bytes stream
-most_in most n count bytes front slice stream same is few whole full first =
-    let here : IsWhole open_gate front n = subst (λ xs. IsWhole open_gate xs n) same whole in
-    longest_most most n count bytes front stream is few here.within first full here
+pub turn_over : (most left count : ℕ) (bytes front slice : List ℕ) (whole : Whole) → slice ≡ front → front ≡ take count bytes → count ≤ most
+    → whole.read ≡ deciding slice → length front ≤ whole.read → count ≤ length front → left < count → IsBytes bytes → IsTurn most left bytes turn.Over
+turn_over most left count bytes front slice whole same is few read full long over are =
+    let B : List ℕ = take most bytes in
+    let of_all : take count B ≡ slice = front_of_most most count bytes front is few ∙ sym same in
+    let size : length slice ≡ length front = ap (λ xs. length xs) same in
+    let here : length (take count B) ≤ deciding (take count B) = subst (λ xs. length xs ≤ deciding xs) (sym of_all) (omega (arith, size, full, read)) in
+    let more : length (take count B) ≤ deciding B = front_over count B (front_left most bytes are) here in
+    let n : length (take count B) ≡ length slice = ap (λ xs. length xs) of_all in
+    omega (arith, more, n, size, long, over)
 
 pub are_bytes : (text : List ℕ) (reading : Reading) → IsIn text reading → IsBytes (bytes_from text reading)
 are_bytes text reading is = spells_bytes (drop reading.at text) reading.spot is.fits
@@ -79,9 +105,14 @@ pub no_text_found : (search inside : TextSearch) (start : Option Start) → insi
 no_text_found search inside start same none first =
     subst (λ (s : TextSearch). Nowhere (HasHeaderTextAt s.text) s.place (length s.text)) same (subst (IsFirstStart inside.text inside.place) none first)
 
-pub text_found : (most : ℕ) (text : List ℕ) (place next : ℕ) (start : Start) (find : TextFind) → IsFirstStart text place (Some start)
-    → IsLongest most (bytes_from text start.reading) find.stream.items → find.from ≡ start.from → find.form ≡ form_of start.reading.spot.next
+pub text_spent : (most : ℕ) (text : List ℕ) (place before : ℕ) (start : Start) → IsFirstStart text place (Some start)
+    → IsLongestIn most before (bytes_from text start.reading) None → IsSpentAt most text place start.from before
+text_spent most text place before start first over = record { start = start; first = first; from = refl; over = over }
+
+pub text_found : (most : ℕ) (text : List ℕ) (place after : ℕ) (start : Start) (find : TextFind) → IsFirstStart text place (Some start)
+    → find.from ≡ start.from → find.form ≡ form_of start.reading.spot.next
     → find.to ≡ place_until text start.reading (length find.stream.items)
-    → next ≡ max (place_after text start.reading (length find.stream.items)) (start.from + 1) → FindsText most text place next (Some find)
-text_found most text place next start find first longest from form to goes_on =
-    record { start = start; first = first; from = from; form = form; longest = longest; to = to; goes_on = goes_on }
+    → after ≡ max (place_after text start.reading (length find.stream.items)) (start.from + 1)
+    → IsLongest most (bytes_from text start.reading) find.stream.items → IsTextFindAt most text place after start find
+text_found most text place after start find first from form to goes_on longest =
+    record { first = first; from = from; form = form; longest = longest; to = to; goes_on = goes_on }

@@ -1,4 +1,5 @@
 pub mod Answers
+pub mod Budgets
 pub mod Digits
 pub mod Finds
 pub mod Lines

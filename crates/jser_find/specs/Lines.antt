@@ -1,4 +1,4 @@
--- The line of a stream that was found, and its object. Each function puts its words before what follows.
+-- The line of a stream that was found, and its object; and where a search ended. Each function puts its words before what follows.
 use Rattle.std.specs.Prelude.{ℕ, Bool, if◌then◌else◌, List, [], ◌∷◌, ◌++◌, codes}
 use Rattle.jser_shown.specs.Words.{quoted}
 use Rattle.jser_scan.specs.declared.found.Found.{Found}
@@ -34,3 +34,18 @@ object_words path place result k =
 
 abbrev pub find_words : (json : Bool) → FilePath → Place → Found → List ℕ → List ℕ
 find_words json path place result k = if json then object_words path place result k else line_words path place result k
+
+-- ---- a search that its budget ends
+
+-- PATH: searched to PLACE of ALL bytes
+abbrev pub spent_line : FilePath → (place all : ℕ) → List ℕ → List ℕ
+spent_line path place all k =
+    path_words path (count_words (codes ": searched to ") place (count_words (codes " of ") all (codes " bytes\n" ++ k)))
+
+-- "searched" and "of"
+abbrev pub spent_object : FilePath → (place all : ℕ) → List ℕ → List ℕ
+spent_object path place all k =
+    codes "{\"path\":" ++ quoted path.units.items (count_words (codes ",\"searched\":") place (count_words (codes ",\"of\":") all (codes "}\n" ++ k)))
+
+abbrev pub spent_words : (json : Bool) → FilePath → (place all : ℕ) → List ℕ → List ℕ
+spent_words json path place all k = if json then spent_object path place all k else spent_line path place all k

@@ -1,5 +1,5 @@
 -- The next stream that a text spells.
-use Rattle.std.specs.Prelude.{ℕ, ◌≡◌, ◌+◌, ◌-◌, ◌%◌, ◌==◌, max, Bool, true, if◌then◌else◌, List, length, take, Option, None, Some}
+use Rattle.std.specs.Prelude.{ℕ, ◌≡◌, ◌+◌, ◌-◌, ◌%◌, ◌<◌, ◌≤◌, ◌==◌, max, Bool, true, if◌then◌else◌, List, length, take, Option, None, Some}
 use Rattle.memchr.specs.Find.{Nowhere}
 use Rattle.jser_reader.specs.Gates.{open_gate}
 use Rattle.jser_reader.specs.WholeContents.{IsWhole}
@@ -7,9 +7,16 @@ use Rattle.jser_find.specs.declared.spot.Digit.{Digit}
 use Rattle.jser_find.specs.declared.spot.Digit.TheVariants as digit
 use Rattle.jser_find.specs.declared.spelled.Reading.{Reading}
 use Rattle.jser_find.specs.declared.start.Start.{Start}
+use Rattle.jser_find.specs.declared.finder.Whole.{Whole}
+use Rattle.jser_find.specs.declared.longest.Decoded.{Decoded}
+use Rattle.jser_find.specs.declared.longest.Turn.{Turn}
+use Rattle.jser_find.specs.declared.longest.Turn.TheVariants as turn
+use Rattle.jser_find.specs.declared.next.Next.{Next}
+use Rattle.jser_find.specs.declared.next.Next.TheVariants as next
 use Rattle.jser_find.specs.declared.texts.TextFind.{TextFind}
 use Rattle.jser_find.specs.declared.form.Form.{Form}
 use Rattle.jser_find.specs.declared.form.Form.TheVariants as form
+use Rattle.jser_find.specs.Budgets.{deciding}
 use Rattle.jser_find.specs.Spelled.{bytes_from, place_until}
 use Rattle.jser_find.specs.Starts.{HasHeaderTextAt, IsFirstStart}
 
@@ -17,6 +24,24 @@ use Rattle.jser_find.specs.Starts.{HasHeaderTextAt, IsFirstStart}
 pub record IsLongest (most : ℕ) (bytes stream : List ℕ) : Type 0 where
   pub whole : IsWhole open_gate (take most bytes) (length stream)
   pub is : stream ≡ take (length stream) bytes
+
+-- that stream, where no more than so many of the bytes decide; or that more do
+abbrev pub IsLongestIn : (most left : ℕ) → List ℕ → Option Decoded → Type 0
+IsLongestIn most left bytes None = left < deciding (take most bytes)
+IsLongestIn most left bytes (Some longest) =
+    IsLongest most bytes longest.stream.items × (longest.read ≡ deciding (take most bytes)) × (longest.read ≤ left)
+
+-- the same of the first fronts that were read; or they do not decide
+abbrev pub IsTurn : (most left : ℕ) → List ℕ → Turn → Type 0
+IsTurn most left bytes (turn.Found longest) = IsLongestIn most left bytes (Some longest)
+IsTurn most left bytes turn.Over = IsLongestIn most left bytes None
+IsTurn most left bytes turn.More = Unit {0}
+
+-- the stream at the beginning of a front, where no more than so many of its bytes decide
+abbrev pub IsCut : (front : List ℕ) → Whole → (left : ℕ) → Turn → Type 0
+IsCut front whole left (turn.Found longest) = (longest.stream.items ≡ take whole.len front) × (longest.read ≡ whole.read) × (whole.read ≤ left)
+IsCut front whole left turn.Over = left < whole.read
+IsCut front whole left turn.More = ⊥
 
 -- the form of a text of which this digit comes next
 abbrev pub form_of : Digit → Form
@@ -45,19 +70,35 @@ place_after text reading count =
 -- The first header that the text spells from a place on, with the longest stream that it spells there; the stream ends behind the
 -- digit that completes its last byte. The search goes on at the first digit that has bits of what comes behind; where `most` leaves
 -- no byte, behind the first digit of the header.
-pub record IsTextFindFrom (most : ℕ) (text : List ℕ) (place next : ℕ) (find : TextFind) : Type 0 where
-  pub start : Start
+pub record IsTextFindAt (most : ℕ) (text : List ℕ) (place after : ℕ) (start : Start) (find : TextFind) : Type 0 where
   pub first : IsFirstStart text place (Some start)
   pub from : find.from ≡ start.from
   pub form : find.form ≡ form_of start.reading.spot.next
   pub longest : IsLongest most (bytes_from text start.reading) find.stream.items
   pub to : find.to ≡ place_until text start.reading (length find.stream.items)
-  pub goes_on : next ≡ max (place_after text start.reading (length find.stream.items)) (start.from + 1)
+  pub goes_on : after ≡ max (place_after text start.reading (length find.stream.items)) (start.from + 1)
 
--- such a stream, and where the search goes on; or there is no header
-abbrev pub FindsText : (most : ℕ) → List ℕ → (place next : ℕ) → Option TextFind → Type 0
-FindsText most text place next None = Nowhere (HasHeaderTextAt text) place (length text) × (next ≡ place)
-FindsText most text place next (Some find) = IsTextFindFrom most text place next find
+-- how many bytes are read at a header
+abbrev pub reading_of : (most : ℕ) → List ℕ → Start → ℕ
+reading_of most text start = deciding (take most (bytes_from text start.reading))
+
+-- What is left of a budget, before and after, pays what is read there.
+abbrev pub Pays : (most : ℕ) → List ℕ → Start → (before after : ℕ) → Type 0
+Pays most text start before after = before ≡ reading_of most text start + after
+
+-- The first header is at this place, and of it more is to be read than is left.
+pub record IsSpentAt (most : ℕ) (text : List ℕ) (place at before : ℕ) : Type 0 where
+  pub start : Start
+  pub first : IsFirstStart text place (Some start)
+  pub from : at ≡ start.from
+  pub over : before < reading_of most text start
+
+-- Such a stream, and where the search goes on; or the budget is spent; or there is no header.
+abbrev pub FindsText : (most : ℕ) → List ℕ → (from to : ℕ) → (before after : ℕ) → Next TextFind → Type 0
+FindsText most text from to before after (next.Found find) =
+    (start : Start) × IsTextFindAt most text from to start find × Pays most text start before after
+FindsText most text from to before after (next.Spent at) = IsSpentAt most text from at before × (to ≡ from) × (after ≡ 0)
+FindsText most text from to before after next.End = Nowhere (HasHeaderTextAt text) from (length text) × (to ≡ from) × (after ≡ before)
 
 -- a search: the text, how many bytes are read at most from a header on, and where it goes on
 pub record TextSearch : Type 0 where

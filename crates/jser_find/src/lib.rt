@@ -5,12 +5,14 @@
 #![tactic(auto)]
 
 mod answer;
+mod budget;
 mod bytes;
 mod digit;
 mod finder;
 mod finds;
 mod form;
 mod longest;
+mod next;
 mod print;
 mod spelled;
 mod spot;
@@ -18,10 +20,12 @@ mod start;
 mod texts;
 
 pub use answer::judge;
+pub use budget::{BESIDES, Budget};
 pub use finder::Find;
 pub use finds::Finds;
 pub use form::Form;
-pub use print::{Place, print_find};
+pub use next::Next;
+pub use print::{Place, print_find, print_spent};
 pub use spelled::{Given, Reading};
 pub use spot::{Digit, Spot, Step};
 pub use start::Start;

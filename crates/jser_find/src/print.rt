@@ -1,8 +1,8 @@
-//! The line or the JSON object of a stream that was found.
+//! The line or the JSON object of a stream that was found, and of where a search ended.
 ghost use Rattle.std.specs.Prelude.{◌≡◌, ◌++◌, [], OnOk, OnErr, true};
 ghost use Rattle.std.specs.Io.KnownBytes.{Appends};
 ghost use Rattle.jser_printer.specs.Says.{SaysTo};
-ghost use Rattle.jser_find.specs.Lines.{find_words, form_words, line_words, object_words, place_members, place_words};
+ghost use Rattle.jser_find.specs.Lines.{find_words, form_words, line_words, object_words, place_members, place_words, spent_line, spent_object, spent_words};
 
 use crate::form::Form;
 use jser_prim::{Failed, Outbox, Sink};
@@ -46,6 +46,85 @@ pub fn print_find<W: Sink>(
     } else {
         Ok(())
     }
+}
+
+/// Prints that a search ended at a place, since its budget was spent: `PATH: searched to PLACE of ALL bytes`, or a JSON object,
+/// on a line.
+///
+/// # Errors
+///
+/// `Failed` where the output failed.
+#[tactic(auto, using(jser_scan::proofs::ScanLemmas::went, jser_scan::proofs::ScanLemmas::broke, jser_scan::proofs::ScanLemmas::kept))]
+pub fn print_spent<W: Sink>(
+    json: bool,
+    path: &FilePath,
+    place: u64,
+    all: u64,
+    output: &mut W,
+) -> Result<(), Failed>
+    ensures printed { OnOk result (Appends (W.gone_out output.old) (W.gone_out output.new) (spent_words json path.now place all [])) }
+    ensures kept { OnOk result (W.has_failed output.new ≡ W.has_failed output.old) }
+    ensures failed { OnErr result (W.has_failed output.new ≡ true) }
+{
+    let mut outbox = Outbox::new();
+    write_spent(&mut outbox, output, json, path, place, all);
+    outbox.flush(output);
+    if outbox.has_failed() {
+        Err(Failed)
+    } else {
+        Ok(())
+    }
+}
+
+/// Writes where a search ended.
+fn write_spent<W: Sink>(
+    outbox: &mut Outbox,
+    sink: &mut W,
+    json: bool,
+    path: &FilePath,
+    place: u64,
+    all: u64,
+)
+    ensures { SaysTo W.gone_out W.has_failed outbox.old outbox.new sink.old sink.new (λ k. spent_words json path.now place all k) }
+{
+    if json {
+        write_spent_object(outbox, sink, path, place, all);
+    } else {
+        write_spent_line(outbox, sink, path, place, all);
+    }
+}
+
+/// Writes its line.
+fn write_spent_line<W: Sink>(
+    outbox: &mut Outbox,
+    sink: &mut W,
+    path: &FilePath,
+    place: u64,
+    all: u64,
+)
+    ensures { SaysTo W.gone_out W.has_failed outbox.old outbox.new sink.old sink.new (λ k. spent_line path.now place all k) }
+{
+    write_path(outbox, sink, path);
+    write_count(outbox, sink, b": searched to ", place);
+    write_count(outbox, sink, b" of ", all);
+    write(outbox, sink, b" bytes\n");
+}
+
+/// Writes its object.
+fn write_spent_object<W: Sink>(
+    outbox: &mut Outbox,
+    sink: &mut W,
+    path: &FilePath,
+    place: u64,
+    all: u64,
+)
+    ensures { SaysTo W.gone_out W.has_failed outbox.old outbox.new sink.old sink.new (λ k. spent_object path.now place all k) }
+{
+    write(outbox, sink, b"{\"path\":");
+    write_quoted(outbox, sink, path.units.as_slice());
+    write_count(outbox, sink, b",\"searched\":", place);
+    write_count(outbox, sink, b",\"of\":", all);
+    write(outbox, sink, b"}\n");
 }
 
 /// Writes it.

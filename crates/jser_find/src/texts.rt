@@ -1,12 +1,16 @@
 //! The streams that a text spells, one after another.
-ghost use Rattle.std.specs.Prelude.{◌≡◌, ◌≤◌, IfOk, length};
-ghost use Rattle.jser_find.specs.Texts.{FindsText, ends_group, form_of};
+ghost use Rattle.std.specs.Prelude.{◌≡◌, ◌<◌, ◌≤◌, IfOk, OnErr, Some, length};
+ghost use Rattle.jser_find.specs.Spelled.{IsIn, bytes_from};
+ghost use Rattle.jser_find.specs.Starts.{IsFirstStart};
+ghost use Rattle.jser_find.specs.Texts.{FindsText, IsLongest, IsTextFindAt, ends_group, form_of};
 
+use crate::budget::Budget;
 use crate::bytes::place_behind;
 use crate::form::Form;
 use crate::longest::longest;
+use crate::next::Next;
 use crate::spot::Digit;
-use crate::start::first_start;
+use crate::start::{Start, first_start};
 use std::alloc::{AllocError, Global};
 use std::marker::Model;
 
@@ -53,25 +57,46 @@ impl<'t> TextFinds<'t> {
     }
 
     /// The next header outside of the streams before it, with the longest stream that the text spells there and that has at most
-    /// `most` bytes, whatever classes it names. `None` where there is no more. A header may begin in the last digit of the stream
-    /// before it, where that has bits of the next byte too.
+    /// `most` bytes, whatever classes it names; or the first header of which the budget is too small to know that. A header may
+    /// begin in the last digit of the stream before it, where that has bits of the next byte too.
+    ///
+    /// It takes the bytes that decide off the budget, as `Finds::next` does.
     ///
     /// # Errors
     ///
-    /// `AllocError` where memory ran out.
-    #[tactic(auto, using(crate::proofs::TextLemmas::text_found, crate::proofs::TextLemmas::no_text_found, crate::proofs::TextLemmas::longest_enough))]
-    pub fn next(&mut self, alloc: Global) -> Result<Option<TextFind>, AllocError>
-        ensures finds { IfOk result (FindsText self.old.most self.old.text self.old.place self.new.place) }
+    /// `AllocError` where memory ran out. Then the search stays where it is.
+    #[tactic(auto, using(crate::proofs::TextLemmas::text_spent, crate::proofs::TextLemmas::no_text_found, crate::proofs::TextLemmas::longest_enough))]
+    pub fn next(&mut self, alloc: Global, budget: &mut Budget) -> Result<Next<TextFind>, AllocError>
+        ensures finds { IfOk result (FindsText self.old.most self.old.text self.old.place self.new.place budget.old.left budget.new.left) }
         ensures text { IfOk result (λ next. self.new ≡ record self.old { place = self.new.place }) }
+        ensures stays { OnErr result ((self.new ≡ self.old) × (budget.new ≡ budget.old)) }
     {
         let start = match first_start(self.text, self.place) {
             Some(start) => start,
-            None => return Ok(None),
+            None => return Ok(Next::End),
         };
-        let stream = match longest(alloc, self.text, start.reading, self.most) {
-            Ok(stream) => stream,
+        let longest = match longest(alloc, self.text, start.reading, self.most, budget.left) {
+            Ok(Some(longest)) => longest,
+            Ok(None) => {
+                budget.left = 0;
+                return Ok(Next::Spent(start.from));
+            }
             Err(error) => return Err(error),
         };
+        budget.left -= longest.read;
+        Ok(Next::Found(self.found(start, longest.stream)))
+    }
+
+    /// Goes behind this stream, which is at this header.
+    #[tactic(auto, using(crate::proofs::TextLemmas::text_found))]
+    fn found(&mut self, start: Start, stream: Vec<u8>) -> TextFind
+        requires first { IsFirstStart self.old.text self.old.place (Some start) }
+        requires inside { IsIn self.old.text start.reading × (start.from < length self.old.text) }
+        requires few { length stream.items ≤ length (bytes_from self.old.text start.reading) }
+        ensures is { IsLongest self.old.most (bytes_from self.old.text start.reading) stream.items
+            → IsTextFindAt self.old.most self.old.text self.old.place self.new.place start result }
+        ensures text { self.new ≡ record self.old { place = self.new.place } }
+    {
         let to = place_behind(self.text, start.reading, stream.len());
         let behind = if ends_group(start.reading.spot.next, stream.len()) {
             to
@@ -79,12 +104,12 @@ impl<'t> TextFinds<'t> {
             to.saturating_sub(1)
         };
         self.place = behind.max(start.from + 1);
-        Ok(Some(TextFind {
+        TextFind {
             form: form_of(start.reading.spot.next),
             from: start.from,
             to,
             stream,
-        }))
+        }
     }
 }
 
