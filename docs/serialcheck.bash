@@ -17,7 +17,7 @@ _serialcheck() {
     suggest) options="$form --slack --help" ;;
     list) options="$filter $form --anywhere --help" ;;
     records) options="$filter --strict $form --frames --sized --zero --copy --field --most --anywhere --refused --json --progress --pass --help" ;;
-    find) options="$filter --strict --text --all --most --json --progress --carve --help" ;;
+    find) options="$filter --strict --text --all --most --effort --json --progress --carve --most-files --help" ;;
     scan) options="$filter --strict $form --anywhere --refused --json --progress --help" ;;
     esac
     if [[ $before == --filter || $before == --limit || $before == --field || $before == --most || $before == --slack ]]; then
