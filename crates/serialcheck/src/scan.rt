@@ -7,8 +7,9 @@ use jser_inputs::{Decoded, Form, InputFault};
 use jser_prim::{Failed, FromRead, Sink};
 use jser_scan::{Found, How, Rules, check_file, print_summary};
 use jser_settings::tell_failure;
-use std::fs;
+use std::fs::{self, File, Metadata};
 use std::io::ErrorKind;
+use std::os::unix::fs::MetadataExt;
 
 /// What is asked of the files.
 #[derive(Drop)]
@@ -23,13 +24,28 @@ pub(crate) struct Task<'t> {
     pub(crate) progress: bool,
 }
 
+/// Which file or folder it is, whatever path names it: its device, and its number there.
+#[derive(Clone, Copy, PartialEq, Eq)]
+struct Node {
+    device: u64,
+    number: u64,
+}
+
 /// What a path is, where links are not followed.
 #[derive(Clone, Copy)]
 enum Kind {
-    File,
-    Folder,
+    File(Node),
+    Folder(Node),
     Other,
     Unknown,
+}
+
+/// What is still to be looked at in a folder.
+#[derive(Drop)]
+struct Waiting {
+    path: String,
+    /// What it was when the folder was read.
+    kind: Kind,
 }
 
 /// Checks the files of these paths, and those in the folders among them, and prints the counts.
@@ -89,19 +105,24 @@ fn scan_folder<W: Sink, E: Sink>(
 ) -> Result<(), Failed>
     ensures kept { OnOk result (W.has_failed output.new ≡ W.has_failed output.old) }
 {
-    // What is still to be looked at, the next one last.
-    let mut waiting: Vec<String> = Vec::new(rt.alloc());
-    enter(rt, task, folder, &mut waiting, course, output, faults)?;
+    // The next one last.
+    let mut waiting: Vec<Waiting> = Vec::new(rt.alloc());
+    enter(rt, task, folder, None, &mut waiting, course, output, faults)?;
     'paths: for _ in 0..u64::MAX {
-        let Some(path) = waiting.pop() else {
+        let Some(next) = waiting.pop() else {
             return Ok(());
         };
-        match kind_of(rt, path.as_str()) {
-            Kind::File => scan_file(rt, task, path.as_str(), course, output, faults)?,
-            Kind::Folder => enter(
+        let path = next.path.as_str();
+        match next.kind {
+            Kind::File(node) => {
+                let found = found_in_folder(rt, task, path, node);
+                print(rt, task, path, &found, course, output, faults)?;
+            }
+            Kind::Folder(node) => enter(
                 rt,
                 task,
-                path.as_str(),
+                path,
+                Some(node),
                 &mut waiting,
                 course,
                 output,
@@ -109,7 +130,7 @@ fn scan_folder<W: Sink, E: Sink>(
             )?,
             Kind::Unknown => {
                 let found = Found::NotOpened;
-                print(rt, task, path.as_str(), &found, course, output, faults)?;
+                print(rt, task, path, &found, course, output, faults)?;
             }
             Kind::Other => {}
         }
@@ -120,35 +141,61 @@ fn scan_folder<W: Sink, E: Sink>(
 /// What a path is.
 fn kind_of(rt: &HostRuntime, path: &str) -> Kind {
     match fs::symlink_metadata(rt, path) {
-        Ok(found) if found.is_file() => Kind::File,
-        Ok(found) if found.is_dir() => Kind::Folder,
+        Ok(found) if found.is_file() => Kind::File(node_of(&found)),
+        Ok(found) if found.is_dir() => Kind::Folder(node_of(&found)),
         Ok(_) => Kind::Other,
         Err(_) => Kind::Unknown,
     }
 }
 
-/// Puts what is in a folder on top of what is waiting. Where the folder cannot be read, that is printed.
+/// Which file or folder this is told of.
+fn node_of(found: &Metadata) -> Node {
+    Node {
+        device: found.dev(),
+        number: found.ino(),
+    }
+}
+
+/// Puts what is in a folder on top of what is waiting. Where the folder cannot be read, or is no longer the one that it was, that
+/// is printed.
 fn enter<W: Sink, E: Sink>(
     rt: &HostRuntime,
     task: &Task<'_>,
     folder: &str,
-    waiting: &mut Vec<String>,
+    was: Option<Node>,
+    waiting: &mut Vec<Waiting>,
     course: &mut Course<'_>,
     output: &mut W,
     faults: &mut E,
 ) -> Result<(), Failed>
     ensures kept { OnOk result (W.has_failed output.new ≡ W.has_failed output.old) }
 {
-    let found = match names_in(rt, folder, waiting) {
-        Ok(()) => return Ok(()),
-        Err(found) => found,
-    };
-    print(rt, task, folder, &found, course, output, faults)
+    let before = waiting.len();
+    let result = names_in(rt, folder, waiting);
+    if !is_still_folder(rt, folder, was) {
+        waiting.truncate(before);
+        return print(rt, task, folder, &Found::NotOpened, course, output, faults);
+    }
+    match result {
+        Ok(()) => Ok(()),
+        Err(found) => print(rt, task, folder, &found, course, output, faults),
+    }
 }
 
-/// Puts the paths of what is in a folder on top of what is waiting, the first one last. A name that is no UTF-8 names nothing
-/// that can be opened: the folder was then not read as a whole, and the others wait all the same.
-fn names_in(rt: &HostRuntime, folder: &str, waiting: &mut Vec<String>) -> Result<(), Found> {
+/// Whether a path still names the folder that it named. Of the folder that was given nothing is asked: it may be a link.
+fn is_still_folder(rt: &HostRuntime, path: &str, was: Option<Node>) -> bool {
+    let Some(was) = was else {
+        return true;
+    };
+    match kind_of(rt, path) {
+        Kind::Folder(node) => node == was,
+        _ => false,
+    }
+}
+
+/// Puts what is in a folder on top of what is waiting, the first one last. A name that is no UTF-8 names nothing that can be
+/// opened: the folder was then not read as a whole, and the others wait all the same.
+fn names_in(rt: &HostRuntime, folder: &str, waiting: &mut Vec<Waiting>) -> Result<(), Found> {
     let entries = match fs::read_dir(rt, folder) {
         Ok(entries) => entries,
         Err(error) => return Err(unopened(&error)),
@@ -162,7 +209,7 @@ fn names_in(rt: &HostRuntime, folder: &str, waiting: &mut Vec<String>) -> Result
             Err(_) => is_whole = false,
         }
     }
-    put_on_top(paths, waiting)?;
+    put_on_top(rt, paths, waiting)?;
     if is_whole {
         Ok(())
     } else {
@@ -181,14 +228,19 @@ fn keep_path(rt: &HostRuntime, path: &str, paths: &mut Vec<String>) -> Result<()
     Ok(())
 }
 
-/// Puts these paths on top of what is waiting, the first one last.
-fn put_on_top(mut paths: Vec<String>, waiting: &mut Vec<String>) -> Result<(), Found> {
+/// Puts these paths on top of what is waiting, the first one last, each with what it is.
+fn put_on_top(
+    rt: &HostRuntime,
+    mut paths: Vec<String>,
+    waiting: &mut Vec<Waiting>,
+) -> Result<(), Found> {
     if paths.sort().is_err() {
         return Err(Found::OutOfMemory);
     }
     paths.reverse();
     for path in paths {
-        if waiting.push(path).is_err() {
+        let kind = kind_of(rt, path.as_str());
+        if waiting.push(Waiting { path, kind }).is_err() {
             return Err(Found::OutOfMemory);
         }
     }
@@ -213,13 +265,33 @@ fn scan_file<W: Sink, E: Sink>(
 /// What the check finds in a file.
 fn found_in(rt: &HostRuntime, task: &Task<'_>, path: &str) -> Found {
     match Opened::new(rt, path) {
-        Ok(opened) => {
-            let input = Decoded::new(FromRead::new(opened), task.form);
-            let (found, _input) = check_file(rt.alloc(), task.rules, input);
-            found
-        }
+        Ok(opened) => found_in_opened(rt, task, opened),
         Err(error) => unopened(&error),
     }
+}
+
+/// What the check finds in a file of a folder, if it is the regular file that was there when the folder was read.
+fn found_in_folder(rt: &HostRuntime, task: &Task<'_>, path: &str, was: Node) -> Found {
+    match File::open(rt, path) {
+        Ok(file) if is_still_file(&file, was) => found_in_opened(rt, task, Opened::File(file)),
+        Ok(_) => Found::NotOpened,
+        Err(error) => unopened(&error),
+    }
+}
+
+/// Whether what was opened is this regular file.
+fn is_still_file(file: &File, was: Node) -> bool {
+    match file.metadata() {
+        Ok(found) => found.is_file() && node_of(&found) == was,
+        Err(_) => false,
+    }
+}
+
+/// What the check finds in what was opened.
+fn found_in_opened(rt: &HostRuntime, task: &Task<'_>, opened: Opened) -> Found {
+    let input = Decoded::new(FromRead::new(opened), task.form);
+    let (found, _input) = check_file(rt.alloc(), task.rules, input);
+    found
 }
 
 /// Counts a file, and prints what was found. Where there is no memory for its path, that is told.
