@@ -7,6 +7,7 @@
 ghost use Rattle.std.specs.Prelude.{◌≡◌, ◌≢◌, ◌⊎◌, ◌≤◌, None, [], IfOk, IfErr, IfSome, length, string_bytes, vec_len};
 ghost use Rattle.jser_prim.specs.ModifiedUtf8.{utf16_units};
 ghost use Rattle.jser_filter.specs.Pieces.{pieces_of};
+ghost use Rattle.jser_settings.specs.Settings.{IsTable};
 ghost use Rattle.jser_commands.specs.Lines.{HasLimit};
 ghost use Rattle.jser_explain.specs.Explains.{check_of};
 ghost use Rattle.serialcheck.specs.Jobs.{list_of};
@@ -29,10 +30,10 @@ use crate::records::check_records;
 use crate::scan::{Task, scan_paths};
 use crate::suggest::suggest_from;
 use jser_commands::{Job, run};
-use jser_filter::{Filter, Modules};
+use jser_filter::Filter;
 use jser_inputs::{Decoded, Form, Input};
 use jser_line::{Clash, Filters, Line, LineFault, line_of, printable};
-use jser_prim::{FromRead, Sink, ToWrite};
+use jser_prim::{FromRead, Sink, Source, ToWrite};
 use jser_scan::{How, Rules};
 use jser_settings::{
     FAILED, filter_of, filter_text_in, limit_of, modules_of, note_modules, note_patterns,
@@ -363,25 +364,29 @@ pub(crate) fn filter_reading<E: Sink>(
     let Some(file) = &filters.modules else {
         return Ok(filter);
     };
-    match modules_in(rt, file.as_str(), faults) {
-        Ok(table) => Ok(filter.with_modules(table)),
-        Err(status) => Err(status),
+    match File::open(rt, file.as_str()) {
+        Ok(opened) => with_modules_of(rt.alloc(), filter, &mut FromRead::new(opened), faults),
+        Err(_) => Err(tell_unopened(rt.alloc(), file.as_str(), faults)),
     }
 }
 
-/// The table of modules that a file holds. That it is empty is told.
-fn modules_in<E: Sink>(rt: &HostRuntime, file: &str, faults: &mut E) -> Result<Modules, u8>
+/// The filter, with the table of modules that an input holds. That the table is empty is told.
+fn with_modules_of<R: Source, E: Sink>(
+    alloc: Global,
+    filter: Filter,
+    input: &mut R,
+    faults: &mut E,
+) -> Result<Filter, u8>
+    ensures pieces { IfOk result (λ whole. whole.pieces ≡ «filter».pieces) }
+    ensures modules { IfOk result (λ whole. IfSome (R.to_come input.old) (λ bytes. IsTable bytes whole.modules)) }
     ensures { IfErr result (λ status. (status ≡ 2) ⊎ (status ≡ 3)) }
 {
-    match File::open(rt, file) {
-        Ok(opened) => match modules_of(rt.alloc(), &mut FromRead::new(opened), faults) {
-            Ok(table) => {
-                note_modules(&table, faults);
-                Ok(table)
-            }
-            Err(status) => Err(status),
-        },
-        Err(_) => Err(tell_unopened(rt.alloc(), file, faults)),
+    match modules_of(alloc, input, faults) {
+        Ok(table) => {
+            note_modules(&table, faults);
+            Ok(filter.with_modules(table))
+        }
+        Err(status) => Err(status),
     }
 }
 
