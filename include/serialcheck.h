@@ -67,7 +67,8 @@ typedef struct {
     uint64_t depth;    /* its depth, */
     uint64_t handles;  /* and its handles */
     uint64_t name_from; /* of NO where the bytes of the class name stand that was refused (ClassRejected, ClassUnmatched), */
-    uint64_t name_to;   /* or the place of a hidden name (HiddenName): that of `72` or `7D`, and the end of its text */
+    uint64_t name_to;   /* or the place of a hidden name (HiddenName): that of `72` or `7D`, and the end of its text. Of an empty
+                         * name both are the same; name_to is 0 where there is no name */
     uint64_t whole;    /* of a check (YES, NO, MORE) how many of the bytes that came are whole contents: the length of their longest
                         * front that the filter admits, or 0; ANYWHERE is not asked. So streams one after another can be cut.
                         * Pieces that come after a HiddenName do not count */
@@ -146,8 +147,8 @@ uint32_t serialcheck_version(void);
 uint32_t serialcheck_line(const serialcheck_answer *answer, uint8_t *room, size_t room_len, serialcheck_answer *told);
 
 /* Writes the class name that an answer to a check of these bytes says was refused or hidden, quoted as the program prints it, in
- * the same way: other units than printable ASCII are `\u` and four digits. SPENT where the answer has no such name, or the bytes
- * do not have it at that place: then they are others. Of a stream that came in pieces `bytes` are all of them up to `name_to`.
+ * the same way: other units than printable ASCII are `\u` and four digits, and an empty name is `""`. SPENT where the answer has no
+ * such name, or the bytes do not have it at that place: then they are others. Of a stream that came in pieces `bytes` are all of them up to `name_to`.
  * Six times the length of the name and two bytes are room enough. */
 uint32_t serialcheck_class(const uint8_t *bytes, size_t len, const serialcheck_answer *answer, uint8_t *room, size_t room_len,
                            serialcheck_answer *told);

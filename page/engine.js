@@ -83,7 +83,7 @@ class Engine {
         return {
             reason: this.words("reason_name", [number]),
             meaning: this.words("reason_text", [number]),
-            className: nameFrom === nameTo ? null : this.words("class", [...given, this.answerPlace], 6 * (nameTo - nameFrom) + 2),
+            className: nameTo === 0 ? null : this.words("class", [...given, this.answerPlace], 6 * (nameTo - nameFrom) + 2),
         };
     }
 

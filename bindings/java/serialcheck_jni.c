@@ -32,7 +32,7 @@ static jstring text_of(JNIEnv *env, uint8_t *room, const serialcheck_answer *tol
 /* The class name that an answer says was refused, as the program prints it without its quotes, or NULL. */
 static jstring class_of(JNIEnv *env, const uint8_t *bytes, size_t len, const serialcheck_answer *answer) {
     const size_t most = 6 * (size_t)(answer->name_to - answer->name_from) + 2;
-    uint8_t *quoted = answer->name_to > answer->name_from ? malloc(most) : NULL;
+    uint8_t *quoted = answer->name_to > 0 ? malloc(most) : NULL;
     serialcheck_answer told;
     jstring name = NULL;
     if (quoted && serialcheck_class(bytes, len, answer, quoted, most, &told) == SERIALCHECK_YES && told.bytes >= 2) {

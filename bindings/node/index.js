@@ -85,7 +85,7 @@ class Engine {
     /** The class that the answer at hand to a check of given bytes says was refused, as the program prints it without its quotes; or null. */
     className(given) {
         const { nameFrom, nameTo } = this.answer();
-        const quoted = nameFrom === nameTo ? null : this.words("class", [...given, this.place], 6 * (nameTo - nameFrom) + 2);
+        const quoted = nameTo === 0 ? null : this.words("class", [...given, this.place], 6 * (nameTo - nameFrom) + 2);
         return quoted && quoted.slice(1, -1);
     }
 

@@ -120,7 +120,7 @@ static void append_class(StringInfo text, const serialcheck_answer *answer, cons
     uint8_t *name;
     serialcheck_answer told;
 
-    if (answer->name_to == answer->name_from)
+    if (answer->name_to == 0)
         return;
     name = palloc(room);
     switch (serialcheck_class((const uint8_t *) VARDATA_ANY(data), VARSIZE_ANY_EXHDR(data), answer, name, room, &told)) {

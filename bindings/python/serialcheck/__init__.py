@@ -136,7 +136,7 @@ def _text(call, *of, most=_MOST_TEXT):
 
 def _class_name(answer, data):
     """The name of the class that was refused, if one was, as the program prints it without its quotes."""
-    if answer.name_start == answer.name_end:
+    if answer.name_end == 0:
         return None
     quoted = _text(_library.serialcheck_class, data, len(data), answer, most=6 * (answer.name_end - answer.name_start) + 2)
     return quoted and quoted[1:-1]

@@ -1,9 +1,10 @@
 //! The class name of an answer, quoted.
-ghost use Rattle.std.specs.Prelude.{◌≡◌, ◌≢◌, ◌⊎◌, [], length, IfOk, IfSome};
-ghost use Rattle.jser_prim.specs.ModifiedUtf8.{modified_utf8};
+ghost use Rattle.std.specs.Prelude.{◌≡◌, ◌≢◌, ◌⊎◌, ℕ, List, [], Ok, None, length, IfOk, IfSome};
+ghost use Rattle.std.specs.Option.{option_map};
+ghost use Rattle.jser_prim.specs.ModifiedUtf8.{IsUnits, modified_utf8};
 ghost use Rattle.jser_anywhere.specs.Standing.{StandsAt};
 ghost use Rattle.jser_shown.specs.Words.{quoted};
-ghost use Rattle.jser_ffi.specs.Classes.{IsClassOf, PutsClass, is_hidden, part};
+ghost use Rattle.jser_ffi.specs.Classes.{IsNamedIn, NamesNone, PutsClass, part};
 ghost use Rattle.jser_ffi.specs.Rooms.{Puts};
 ghost use Rattle.jser_ffi.specs.Told.{TextZeros};
 
@@ -21,6 +22,7 @@ const MOST: usize = 1 << 20;
 #[tactic(auto, using(crate::proofs::ClassLemmas::puts_class))]
 pub(crate) fn class_into(alloc: Global, bytes: &[u8], answer: &Answer, room: &mut [u8]) -> Answer
     ensures puts { (result.status ≡ 0) ⊎ (result.status ≡ 6) → PutsClass bytes.now answer.now room.old room.new result }
+    ensures spent { result.status ≡ 5 → NamesNone bytes.now answer.now }
     ensures kept { (result.status ≡ 3) ⊎ (result.status ≡ 5) → room.new ≡ room.old }
     ensures known { (result.status ≡ 0) ⊎ ((result.status ≡ 3) ⊎ ((result.status ≡ 5) ⊎ (result.status ≡ 6))) }
     ensures zeros { TextZeros result }
@@ -34,7 +36,8 @@ pub(crate) fn class_into(alloc: Global, bytes: &[u8], answer: &Answer, room: &mu
 
 /// The class name of an answer.
 fn class_of(alloc: Global, bytes: &[u8], answer: &Answer) -> Result<Option<Vec<u16>>, AllocError>
-    ensures { IfOk result (λ found. IfSome found (λ units. IsClassOf (is_hidden answer.now) (part bytes.now answer.now.name_from answer.now.name_to) units.items)) }
+    ensures named { IfOk result (λ found. IfSome found (λ units. IsNamedIn bytes.now answer.now units.items)) }
+    ensures none { result ≡ Ok None → NamesNone bytes.now answer.now }
 {
     let Some(text) = part(bytes, answer.name_from, answer.name_to) else {
         return Ok(None);
@@ -46,11 +49,11 @@ fn class_of(alloc: Global, bytes: &[u8], answer: &Answer) -> Result<Option<Vec<u
     }
 }
 
-/// The bytes from one place to another, if they are there.
+/// The bytes from one place to another, if they are there. An empty name is; no name ends at 0.
 fn part(bytes: &[u8], from: u64, to: u64) -> Option<&[u8]>
-    ensures { IfSome result (λ text. text.now ≡ part bytes.now from to) }
+    ensures { option_map (λ text. text.now) result ≡ part bytes.now from to }
 {
-    if from >= to || to > bytes.len() as u64 {
+    if to == 0 || from > to || to > bytes.len() as u64 {
         return None;
     }
     let (_, rest) = bytes.split_at(from as usize);
@@ -60,7 +63,8 @@ fn part(bytes: &[u8], from: u64, to: u64) -> Option<&[u8]>
 
 /// The name that a text spells.
 fn spelled_class(alloc: Global, text: &[u8]) -> Result<Option<Vec<u16>>, AllocError>
-    ensures { IfOk result (λ found. IfSome found (λ units. modified_utf8 units.items ≡ text.now)) }
+    ensures named { IfOk result (λ found. IfSome found (λ units. IsUnits units.items × (modified_utf8 units.items ≡ text.now))) }
+    ensures none { result ≡ Ok None → (units : List ℕ) → IsUnits units → modified_utf8 units ≡ text.now → ⊥ }
 {
     let mut units = Vec::new(alloc);
     if read_units(text, &mut units)? {
@@ -71,9 +75,10 @@ fn spelled_class(alloc: Global, text: &[u8]) -> Result<Option<Vec<u16>>, AllocEr
 }
 
 /// The class of the name that stands at the front of these bytes and ends where they end.
-#[tactic(auto, using(crate::proofs::ClassLemmas::first_names, crate::proofs::ClassLemmas::later_names, crate::proofs::ClassLemmas::named_here))]
+#[tactic(auto, using(crate::proofs::ClassLemmas::first_names, crate::proofs::ClassLemmas::named_here))]
 fn hidden_class(alloc: Global, text: &[u8]) -> Result<Option<Vec<u16>>, AllocError>
-    ensures { IfOk result (λ found. IfSome found (λ units. StandsAt text.now 0 (length text.now) units.items)) }
+    ensures named { IfOk result (λ found. IfSome found (λ units. StandsAt text.now 0 (length text.now) units.items)) }
+    ensures none { result ≡ Ok None → (units : List ℕ) → StandsAt text.now 0 (length text.now) units → ⊥ }
 {
     let mut names = Names::new(text);
     'names: while let Some(found) = names.next() {

@@ -13,7 +13,7 @@ ghost use Rattle.jser_ffi.specs.Compiling.{IsCompiled, IsCompiledFile, SaysFileM
 ghost use Rattle.jser_ffi.specs.Holding.{HoldsSuch};
 ghost use Rattle.jser_reader.specs.declared.Reason.{Reason};
 ghost use Rattle.jser_reader.specs.ReasonNames.{reason_name};
-ghost use Rattle.jser_ffi.specs.Classes.{PutsClass};
+ghost use Rattle.jser_ffi.specs.Classes.{NamesNone, PutsClass};
 ghost use Rattle.jser_commands.specs.Reasons.{reason_meaning};
 ghost use Rattle.jser_ffi.specs.Lines.{PutsAny, cause_at, line_of, meaning_at, name_at, version_number};
 ghost use Rattle.jser_ffi.specs.Rooms.{Puts};
@@ -205,7 +205,7 @@ pub unsafe extern "C" fn serialcheck_stream_new(
     ensures begins { filter.now.is_open ≡ true → result ≡ 4 → HoldsSuch (Begins g.compiled) stream.new.owner.held }
     ensures empty { filter.now.is_open ≡ false → result ≡ 5 }
     ensures kept { result ≢ 4 → stream.new ≡ stream.old }
-    ensures known { (result ≡ 4) ⊎ ((result ≡ 3) ⊎ (result ≡ 5)) }
+    ensures known { filter.now.is_open ≡ true → (result ≡ 4) ⊎ (result ≡ 3) }
     ensures zeros { Zeros answer.new }
 {
     if is_open(filter) {
@@ -446,6 +446,7 @@ pub extern "C" fn serialcheck_class(
 ) -> u32
     ensures status { result ≡ told.new.status }
     ensures puts { (result ≡ 0) ⊎ (result ≡ 6) → PutsClass bytes.now answer.now room.old room.new told.new }
+    ensures spent { result ≡ 5 → NamesNone bytes.now answer.now }
     ensures kept { (result ≡ 3) ⊎ (result ≡ 5) → room.new ≡ room.old }
     ensures known { (result ≡ 0) ⊎ ((result ≡ 3) ⊎ ((result ≡ 5) ⊎ (result ≡ 6))) }
     ensures zeros { TextZeros told.new }

@@ -1,6 +1,6 @@
 -- `serialcheck_stream_new` reads the pointer in the handle, follows it to what is lent there, and begins a stream under it. The token of the lifetime comes back.
 use Rattle.std.specs.Prelude.{◌≢◌}
-use Rattle.std.proofs.Common.{◌⊎◌, inl, inr, Bool, true, false, ◌≡◌, ℕ, List, [], ◌∷◌, refl, sym, ◌∙◌, ap, subst, Bor, MutBor, w32}
+use Rattle.std.proofs.Common.{◌⊎◌, Bool, true, false, ◌≡◌, ℕ, List, [], ◌∷◌, refl, sym, ◌∙◌, ap, subst, Bor, MutBor, w32}
 use seplogic.Ra.Ura.{Ura}
 use mir.Syntax.{named}
 use mir.Val.{Val, vptr, vbool}
@@ -63,10 +63,6 @@ use Rattle.jser_ffi.specs.contracts.serialcheck_stream_new.Key.{name as key}
 use Rattle.jser_ffi.proofs.serialcheck_stream_new.Statement as stated
 use Rattle.jser_ffi.proofs.serialcheck_stream_new.Code as code
 
-begun_or_not : (r : ℕ) → (r ≡ 4) ⊎ (r ≡ 3) → (r ≡ 4) ⊎ ((r ≡ 3) ⊎ (r ≡ 5))
-begun_or_not r (inl more) = inl more
-begun_or_not r (inr none) = inr (inl none)
-
 abbrev stayed : Stays (f.ended).signature.params (f.ended).kept
 stayed = (
   stay_dropped (RefOf (0 ∷ []) tt (plain (λ _. B)) (λ _. tt)) yes,
@@ -109,7 +105,7 @@ module _ {M : Type 1} {𝓤 : Ura M} (𝓛 : Logic 𝓤) (at_mem : Memory → SP
     Had w u = fsep ftrue (Gave w u)
 
     exits : (r : ℕ) (v : Val) (w : Out.Denot) (u : Hd.Denot) → r ≡ w.status → (d.now.is_open ≡ true → r ≡ 4 → HoldsSuch (Begins g.compiled) u.owner.held)
-        → (d.now.is_open ≡ false → r ≡ 5) → (r ≢ 4 → u ≡ n.now) → (r ≡ 4) ⊎ ((r ≡ 3) ⊎ (r ≡ 5)) → Zeros w
+        → (d.now.is_open ≡ false → r ≡ 5) → (r ≢ 4 → u ≡ n.now) → (d.now.is_open ≡ true → (r ≡ 4) ⊎ (r ≡ 3)) → Zeros w
         → ent 𝓤 (sep 𝓤 (sem 𝓛 (u32.own_val r (v ∷ []))) (sep 𝓤 (sem 𝓛 (Had w u)) (sep 𝓤 (sep 𝓤 (sem 𝓛 (flft κ q)) (sep 𝓤 (sem 𝓛 (flft κ₁ q₁)) (sep 𝓤 (sem 𝓛 (flft κ₂ q₂)) (sem 𝓛 ftrue)))) (sem 𝓛 (flft g.life g.share))))) (Post v)
     exits r v w u status began empty' kept known zeros =
         qed 𝓛 (‵ (u32.own_val r (v ∷ [])) ∷ ‵ (Had w u) ∷ (‵ (flft κ q) ⊛ (‵ (flft κ₁ q₁) ⊛ (‵ (flft κ₂ q₂) ⊛ ‵ ftrue))) ∷ ‵ (flft g.life g.share) ∷ []) ∵
@@ -165,7 +161,7 @@ module _ {M : Type 1} {𝓤 : Ura M} (𝓛 : Logic 𝓤) (at_mem : Memory → SP
           heard ! (BeginsIn g.compiled n.now ws.1.1.0 ws.1.0 r') (λ e'. move ! (1 ∷ []) $ split ! $ split ! $ move ! (2 ∷ []) $
           peeks ! u32 (Is u32) (shows 𝓛 u32) r' (v ∷ []) (λ given. let typed = ((uint_Lawful 𝓛 w32).typed r' (v ∷ []) given).0 in
           lands_last ! refl typed $ exec ! 𝓣.C 𝓣.Λ (env code.function.locals l) code.Mir.t-3 (at_ret (env code.function.locals l) Post) $ sets ! (of_opd ! (get ! refl)) refl typed $
-          returns ! (look_at ! 0 refl) $ free_all ! refl $ move ! (4 ∷ 2 ∷ []) $ join ! $ move ! (1 ∷ 3 ∷ 0 ∷ []) $ by ! (exits r' v ws.1.0 ws.1.1.0 e'.status (λ yes. e'.begins) (λ no. absurd (cc)) e'.kept (begun_or_not r' e'.known) e'.zeros))))))))))) (λ no'. absurd no'))))))
+          returns ! (look_at ! 0 refl) $ free_all ! refl $ move ! (4 ∷ 2 ∷ []) $ join ! $ move ! (1 ∷ 3 ∷ 0 ∷ []) $ by ! (exits r' v ws.1.0 ws.1.1.0 e'.status (λ yes. e'.begins) (λ no. absurd (cc)) e'.kept (λ yes. e'.known) e'.zeros))))))))))) (λ no'. absurd no'))))))
 
     empty : d.now.is_open ≡ false → ent 𝓤 (sep 𝓤 Entry (sem 𝓛 (reads d.now.is_open d.now.at g))) Goes
     empty op =
@@ -202,7 +198,7 @@ module _ {M : Type 1} {𝓤 : Ura M} (𝓛 : Logic 𝓤) (at_mem : Memory → SP
         lands_last ! refl typed $ exec ! 𝓣.C 𝓣.Λ (env code.function.locals l) code.Mir.t-3 (at_ret (env code.function.locals l) Post) $ sets ! (of_opd ! (get ! refl)) refl typed $
         returns ! (look_at ! 0 refl) $ free_all ! refl $
         -- [the result; the tokens of the answer and the stream's handle; what is had; the token of the filter's handle; that of what is lent]
-        move ! (3 ∷ 1 ∷ []) $ join ! $ move ! (1 ∷ 2 ∷ 0 ∷ []) $ by ! (exits r' v ws.0 ws.1.0 e'.0.status (λ yes. absurd (cc)) (λ no. e'.0.is) (λ more. e'.1) (inr (inr e'.0.is)) e'.0.zeros))))))))))))
+        move ! (3 ∷ 1 ∷ []) $ join ! $ move ! (1 ∷ 2 ∷ 0 ∷ []) $ by ! (exits r' v ws.0 ws.1.0 e'.0.status (λ yes. absurd (cc)) (λ no. e'.0.is) (λ more. e'.1) (λ yes. absurd (cc)) e'.0.zeros))))))))))))
 
     nowhere : d.now.is_open ≡ true → d.now.at ≡ null_ptr → ent 𝓤 (sep 𝓤 Entry (sem 𝓛 (reads d.now.is_open d.now.at g))) Goes
     nowhere op is =
