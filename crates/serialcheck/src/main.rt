@@ -379,7 +379,7 @@ fn with_modules_of<R: Source, E: Sink>(
 ) -> Result<Filter, u8>
     ensures pieces { IfOk result (λ whole. whole.pieces ≡ «filter».pieces) }
     ensures modules { IfOk result (λ whole. IfSome (R.to_come input.old) (λ bytes. IsTable bytes whole.modules)) }
-    ensures { IfErr result (λ status. (status ≡ 2) ⊎ (status ≡ 3)) }
+    ensures status { IfErr result (λ status. (status ≡ 2) ⊎ (status ≡ 3)) }
 {
     match modules_of(alloc, input, faults) {
         Ok(table) => {
