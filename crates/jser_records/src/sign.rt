@@ -59,8 +59,10 @@ pub(crate) fn write_signs<W: Sink>(outbox: &mut Outbox, sink: &mut W, json: bool
 fn write_all<W: Sink>(outbox: &mut Outbox, sink: &mut W, json: bool, signs: &[Sign])
     ensures { SaysTo W.gone_out W.has_failed outbox.old outbox.new sink.old sink.new (λ k. flat_map (sign_words json) signs.now ++ k) }
 {
-    'signs: for sign in signs {
+    let mut index = 0;
+    'signs: while let Some(sign) = signs.get(index) {
         write_sign(outbox, sink, json, *sign);
+        index += 1;
     }
 }
 
