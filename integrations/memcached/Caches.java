@@ -61,7 +61,8 @@ public final class Caches {
     private static String made(String text) throws IOException {
         GuardSettings settings = new GuardSettings();
         settings.setFilter(text.substring(1, text.length() - 1));
-        try (CheckedTranscoder it = new CheckedTranscoder(settings)) {
+        try {
+            new CheckedTranscoder(settings).close();
             return "made";
         } catch (IllegalArgumentException faulty) {
             return faulty.getMessage();

@@ -81,7 +81,7 @@ static void cuts(void) {
 static void misuse(void) {
     const row it = {"a misuse", HEADER "\x70", 5, 0};
     serialcheck_answer answer;
-    serialcheck_check((const uint8_t *)it.bytes, it.len, FILTER, sizeof FILTER, 4, &answer);
+    serialcheck_check((const uint8_t *)it.bytes, it.len, FILTER, sizeof FILTER, 8, &answer);
     expect("check", &it, answer.whole);
 }
 

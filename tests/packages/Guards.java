@@ -64,7 +64,7 @@ public final class Guards {
 
     private static void tellFaultySettings() throws Exception {
         for (String[] words : new String[][] {
-            {"strict", "yes"}, {"most", "0"}, {"most", "many"}, {"onRefusal", "drop"}, {"filters", "!*"}, {}, {"filter", "!*", "filterFile", "f"}, {"filter", "maxwhat=1"}, {"filter", ""}, {"filter", "maxdepth=20"}, {"filter", "!*\u00a0"}, {"filter", "!*", "onRefusal", "quarantine"},
+            {"strict", "yes"}, {"most", "0"}, {"most", "many"}, {"onRefusal", "drop"}, {"filters", "!*"}, {}, {"filter", "!*", "filterFile", "f"}, {"filter", "!*;maxwhat=1"}, {"filter", ""}, {"filter", "maxdepth=20"}, {"filter", "!*\u00a0"}, {"filter", "!*", "onRefusal", "quarantine"},
         }) {
             told(() -> guard(words));
         }
@@ -151,7 +151,7 @@ public final class Guards {
             told(checked(guard, "by a file that is perhaps being written", bytes));
             Thread.sleep(1100);
             told(checked(guard, "by the second file", bytes));
-            for (String faulty : new String[] {"", "# one\r!*\r\n;\r\n", "maxdepth=20;maxrefs=9\r\n", "maxwhat=1", "!* "}) {
+            for (String faulty : new String[] {"", "# one\r!*\r\n;\r\n", "maxdepth=20;maxrefs=9\r\n", "!*;maxwhat=1", "!* "}) {
                 Files.writeString(file, faulty);
                 Thread.sleep(1100);
                 told(checked(guard, "by a faulty file", bytes));

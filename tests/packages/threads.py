@@ -18,7 +18,7 @@ NULLS = 30_000_000
 
 def told(answer):
     """An answer, with the class that was refused."""
-    return f'{answer} "{answer.class_name}"' if answer.class_name else str(answer)
+    return f'{answer} "{answer.class_name}"' if answer.class_name is not None else str(answer)
 
 
 def answers(check, files):

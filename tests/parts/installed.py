@@ -37,16 +37,21 @@ def compiled(folder, path, *files):
     return folder
 
 
+def told_by_program(*words):
+    """What the program prints and tells, but that a filter has no pattern, which packages do not tell."""
+    return run(PROGRAM, *words)[1].replace("filter has no pattern\n", "")
+
+
 def wanted_lines():
     """The program's lines of all streams under all filters."""
     return "".join(
-        run(PROGRAM, "check", f"--filter={text}", *["--strict"] * strict, *["--anywhere"] * anywhere, file)[1] for text, strict, anywhere in FILTERS for file in STREAMS)
+        told_by_program("check", f"--filter={text}", *["--strict"] * strict, *["--anywhere"] * anywhere, file) for text, strict, anywhere in FILTERS for file in STREAMS)
 
 
 def wanted_classes():
     """The classes that `scan` names of all streams under all filters, without their quotes, or null."""
     for text, strict, anywhere in FILTERS:
-        said = run(PROGRAM, "scan", f"--filter={text}", *["--strict"] * strict, *["--anywhere"] * anywhere, *STREAMS)[1].splitlines()
+        said = told_by_program("scan", f"--filter={text}", *["--strict"] * strict, *["--anywhere"] * anywhere, *STREAMS).splitlines()
         for line in said[: len(STREAMS)]:
             name = line.partition(' "')[2]
             yield name.removesuffix('"') if name else "null"
