@@ -120,6 +120,12 @@ uint32_t serialcheck_stream_new_text(const uint8_t *text, size_t len, const uint
  * NO_MEMORY each call answers the same again. SPENT where the handle holds nothing. */
 uint32_t serialcheck_stream_feed(serialcheck_stream *stream, const uint8_t *bytes, size_t len, serialcheck_answer *answer);
 
+/* Writes the class name for which a stream was refused into a room, as `serialcheck_class` does, after `serialcheck_stream_feed` has
+ * answered NO for one: no byte of the stream has to be kept. The stream stays as it is, and keeps its memory until it is ended
+ * or let go. SPENT where none was refused, and where the
+ * handle holds nothing. Six times the length of the name and two bytes are room enough. */
+uint32_t serialcheck_stream_class(serialcheck_stream *stream, uint8_t *room, size_t room_len, serialcheck_answer *told);
+
 /* The end of the stream: answers what a check of all its bytes at once would, and lets the stream go. SPENT where the handle
  * holds nothing. */
 uint32_t serialcheck_stream_end(serialcheck_stream *stream, serialcheck_answer *answer);

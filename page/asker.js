@@ -4,7 +4,7 @@ const STOPPED = 7;
 
 class Asker {
     constructor() {
-        this.module = Uint8Array.from(atob($("module").textContent), (sign) => sign.charCodeAt(0));
+        this.module = bytesOf64($("module").textContent);
         const source = URL.createObjectURL(new Blob([$("engine").textContent], { type: "text/javascript" }));
         const policy = globalThis.trustedTypes?.createPolicy("engine", { createScriptURL: (it) => it });
         this.address = policy ? policy.createScriptURL(source) : source;

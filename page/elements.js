@@ -23,3 +23,6 @@ const numbered = (count, one, more) => `${count.toLocaleString("en")} ${count ==
 
 /** Whether the screen is narrow, as page.css has it. */
 const narrow = matchMedia("(max-width: 44rem)");
+
+/** The bytes of an element's text in base64. */
+const bytesOf64 = (text) => Uint8Array.from(atob(text), (sign) => sign.charCodeAt(0));

@@ -1,7 +1,7 @@
 /* What the C library is elsewhere: the memory of the checks in the page, and what compiled code may call. No proof covers it.
  *
- * Each block has a power of two of bytes; the first 16 keep which one. A freed block waits in the list of its size. Every
- * stream gets a fresh memory, so nothing is ever given back to the browser. */
+ * Each block has a power of two of bytes; the first 16 keep which one. A freed block waits in the list of its size. Nothing
+ * is given back to the browser: bindings/node/library.js lets an instance go whose memory has grown. */
 typedef __SIZE_TYPE__ size_t;
 typedef __UINT32_TYPE__ uint32_t;
 typedef __UINT64_TYPE__ uint64_t;

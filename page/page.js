@@ -1,12 +1,14 @@
 // The page: what is asked, and the streams that were dropped or pasted.
 
 const QUIET = 120; // milliseconds
+const SAMPLE = "session.ser";
 
 class Page {
     constructor() {
         this.asker = new Asker();
         this.streams = [];
         this.pasted = null;
+        this.isTyped = false;
         this.pending = 0; // files that are being read, and calls that are put off
         this.listen();
         this.paste();
@@ -20,10 +22,15 @@ class Page {
         $("filter").addEventListener("input", check);
         $("strict").addEventListener("change", check);
         $("anywhere").addEventListener("change", check);
-        $("text").addEventListener("input", paste);
+        $("text").addEventListener("input", ({ inputType }) => {
+            this.isTyped = !["insertFromPaste", "insertFromDrop"].includes(inputType);
+            paste();
+        });
         $("form").addEventListener("change", paste);
         $("pick").addEventListener("change", () => this.take($("pick").files).then(() => ($("pick").value = "")));
         $("clear").addEventListener("click", () => this.clear());
+        $("try").addEventListener("click", () => this.put([new Stream(SAMPLE, bytesOf64($("sample").textContent), this)]));
+        $("refused-only").addEventListener("change", () => this.summarize());
         narrow.addEventListener("change", () => this.streams.forEach((it) => it.fillAgain()));
         const over = (is) => $("drop").classList.toggle("over", is);
         document.addEventListener("dragover", (event) => {
@@ -78,18 +85,20 @@ class Page {
             }
         }
         $("text-fault").textContent = fault;
-        this.put(this.pasted ? [this.pasted] : []);
+        this.put(this.pasted ? [this.pasted] : [], !this.isTyped);
     }
 
-    put(streams) {
+    /** Puts streams before those that are there. On a narrow screen, where the answers are below what is asked, it goes there. */
+    put(streams, isSeen = true) {
         this.streams = [...streams, ...this.streams];
         $("results").prepend(...streams.map((it) => it.box));
         for (const [number, it] of this.streams.entries()) {
             it.box.open = streams.length > 0 ? number === 0 : it.box.open;
         }
         this.summarize();
-        for (const it of streams) {
-            it.check();
+        const [first] = streams.map((it) => it.check());
+        if (isSeen && narrow.matches) {
+            first?.then(() => $("summary").scrollIntoView());
         }
     }
 
@@ -135,6 +144,9 @@ class Page {
         const all = numbered(this.streams.length, "stream", "streams");
         $("summary").textContent = this.streams.length === 0 ? "No stream yet" : `${all}: ${count(YES)} accepted, ${count(NO)} refused`;
         $("clear").hidden = this.streams.length === 0;
+        $("try").hidden = this.streams.length > 0;
+        $("narrowing").hidden = this.streams.length < 2;
+        $("results").classList.toggle("narrowed", $("refused-only").checked && this.streams.length > 1);
     }
 }
 

@@ -7,11 +7,13 @@ const NO_MEMORY = 3;
 const SMALL = 6;
 const WORDS = { 0: "accepted", 1: "refused", 2: "faulty filter", 3: "no memory", 7: "stopped" };
 
+const HEADER = 4; // bytes
 const FIRST_LIMIT = 1 << 16;
 const MOST_LIMIT = 1 << 24;
 const LIST_LIMIT = 1 << 22;
 const MANY_LINES = 400;
 const MOST_NAMES = 1000;
+const MOST_LINES = 10000;
 const PATIENCE = 300; // milliseconds
 
 let streams = 0;
@@ -25,6 +27,7 @@ class Stream {
         this.answer = null;
         this.shown = null;
         this.limit = FIRST_LIMIT;
+        this.firstLine = 0;
         this.isFilled = false;
         this.checks = 0; // what an older check answers is dropped,
         this.fills = 0; // and what an older fill has found
@@ -41,9 +44,9 @@ class Stream {
     }
 
     /** The answer to a question about it; null where a later question has come, so that nobody waits for this one. */
-    ask(call, more) {
+    ask(call, more, key = this.key(call)) {
         const filter = new TextEncoder().encode(this.filter);
-        return this.page.asker.ask(this.key(call), { call, bytes: this.bytes, filter, ...more });
+        return this.page.asker.ask(key, { call, bytes: this.bytes, filter, ...more });
     }
 
     key(call) {
@@ -61,7 +64,11 @@ class Stream {
         if (answer === null || turn !== this.checks) {
             return;
         }
-        this.answer = answer;
+        const piece = answer.status === NO ? await this.decidingPiece(answer) : null;
+        if (turn !== this.checks) {
+            return;
+        }
+        this.answer = { ...answer, piece };
         this.isFilled = false;
         this.box.className = `result ${WORDS[answer.status].replace(" ", "-")}`;
         this.mark.textContent = WORDS[answer.status];
@@ -84,14 +91,14 @@ class Stream {
         this.body.replaceChildren(...(answer.status === NO ? [this.refusal(answer)] : []));
         if (answer.status !== MISUSE) {
             this.body.append(list, text);
-            const names = await this.patiently(list, "list", LIST_LIMIT);
+            const names = await this.patiently(list, "list", { limit: LIST_LIMIT });
             if (turn !== this.fills) {
                 return;
             }
             list.replaceChildren(...this.names(names));
             const limit = this.limit;
             const isThere = this.shown?.limit === limit && this.shown.status !== STOPPED;
-            const shown = isThere ? this.shown : await this.patiently(text, "show", limit);
+            const shown = isThere ? this.shown : await this.patiently(text, "show", { limit, made: MOST_LIMIT });
             if (turn !== this.fills) {
                 return;
             }
@@ -107,19 +114,29 @@ class Stream {
     }
 
     /** Asks for a text, and says so where it takes long, with a way to stop it. */
-    async patiently(place, call, limit) {
+    async patiently(place, call, words) {
         const timer = setTimeout(() => {
             const row = element("p", "busy", "Working … ");
             row.append(button("Stop", () => this.page.asker.stop(this.key(call), "you stopped it")));
             place.replaceChildren(row);
         }, PATIENCE);
-        const answer = await this.ask(call, { limit });
+        const answer = await this.ask(call, words);
         clearTimeout(timer);
         return answer;
     }
 
-    /** Why it is refused: the reason in words, the class name, and the bytes round the place. */
-    refusal({ reason, meaning, className, from, to }) {
+    /** The number of the piece of the filter for which it is refused, or null. */
+    async decidingPiece({ reason, nameFrom, nameTo }) {
+        if (reason !== "ClassRejected") {
+            return limitPiece(this.filter, reason);
+        }
+        const bytes = classObject(this.bytes.subarray(nameFrom, nameTo));
+        const { text = "" } = (await this.ask("list", { bytes, limit: LIST_LIMIT }, this.key("piece"))) ?? {};
+        return text === "" ? null : listed(text.trimEnd()).piece;
+    }
+
+    /** Why it is refused: the reason in words, the class name, the piece of the filter, and the bytes round the place. */
+    refusal({ reason, meaning, className, from, to, whole, piece }) {
         const box = element("section", "refusal");
         const guess = reason === "BadHeader" ? ` ${guessed(this.bytes)}` : "";
         box.append(element("h3", "", reason), element("p", "", meaning + guess));
@@ -127,6 +144,14 @@ class Stream {
             const row = element("p", "", "Class ");
             row.append(element("code", "class", className));
             box.append(row);
+        }
+        if (piece !== null) {
+            const row = element("p", "deciding", `Piece ${piece} of the filter `);
+            row.append(element("code", "text", pieceOf(this.filter, piece)));
+            box.append(row);
+        }
+        if (whole > HEADER) {
+            box.append(element("p", "whole", `The first ${numbered(whole, "byte", "bytes")} are a stream.`));
         }
         const all = numbered(this.bytes.length, "byte", "bytes");
         const decides = reason === "Truncated" ? "together they are no stream" : `the first ${to.toLocaleString("en")} decide: no admitted stream begins with them`;
@@ -145,35 +170,14 @@ class Stream {
         const lines = (answer.text ?? "").split("\n").slice(0, -1);
         const heading = element("h3", "", "Classes");
         heading.append(element("small", "", answer.status === YES || answer.status === SMALL ? numbered(lines.length, "name", "names") : lineOf(answer)));
-        return lines.length === 0 ? [heading] : [heading, this.pages(lines), ...(answer.status === SMALL ? [element("p", "cut", "The list is cut here.")] : [])];
+        if (lines.length === 0) {
+            return [heading];
+        }
+        const table = paged({ count: lines.length, most: MOST_NAMES, what: "Names", part: (first, end) => this.table(lines.slice(first, end)) });
+        const isCut = answer.status === SMALL ? [element("p", "cut", "The list is cut here.")] : [];
+        return [heading, table, ...isCut, ...explained(lines)];
     }
 
-    /** The table of the names, at most MOST_NAMES at once, with buttons for those before and behind. */
-    pages(lines) {
-        const box = element("div");
-        const part = (first) => this.table(lines.slice(first, first + MOST_NAMES));
-        box.append(part(0));
-        if (lines.length <= MOST_NAMES) {
-            return box;
-        }
-        let first = 0;
-        const place = element("span");
-        const turn = (by) => {
-            first += by;
-            const end = Math.min(first + MOST_NAMES, lines.length);
-            place.textContent = `Names ${(first + 1).toLocaleString("en")} to ${end.toLocaleString("en")} of ${lines.length.toLocaleString("en")}. `;
-            back.hidden = first === 0;
-            next.hidden = end === lines.length;
-            box.firstChild.replaceWith(part(first));
-        };
-        const back = button("Back", () => turn(-MOST_NAMES));
-        const next = button("Next", () => turn(MOST_NAMES));
-        const row = element("p", "pages");
-        row.append(place, back, " ", next);
-        box.append(row);
-        turn(0);
-        return box;
-    }
 
     table(lines) {
         const table = element("table", "names");
@@ -202,7 +206,7 @@ class Stream {
         return table;
     }
 
-    /** The text of show; nothing where there is no stream. */
+    /** The text of show, with what raw values mean; nothing where there is no stream. */
     text(answer) {
         if (answer.status === NO) {
             return [];
@@ -214,25 +218,35 @@ class Stream {
             heading.append(element("small", "", lineOf(answer)));
             return [row];
         }
-        const tree = new Tree(answer.text);
-        heading.append(element("small", "", numbered(tree.rows.length, "line", "lines")));
-        row.append(this.tools(tree, answer.text));
-        if (tree.rows.length > MANY_LINES) {
-            tree.foldTo(1);
-        }
-        return [row, tree.box, ...(answer.status === SMALL ? [this.cut(answer)] : [])];
+        const lines = answer.text.split("\n").slice(0, -1);
+        const meanings = answer.meanings.split("\n");
+        let tree = null;
+        const part = (first, end) => {
+            tree = new Tree(lines.slice(first, end), meanings.slice(first, end));
+            if (lines.length > MANY_LINES) {
+                tree.foldTo(1);
+            }
+            return tree.box;
+        };
+        const turned = (first) => (this.firstLine = first);
+        const pages = paged({ count: lines.length, most: MOST_LINES, what: "Lines", part, start: this.firstLine, turned });
+        heading.append(element("small", "", numbered(lines.length, "line", "lines")));
+        row.append(this.tools(() => tree, answer.text));
+        return [row, pages, ...(answer.status === SMALL ? [this.cut(answer)] : [])];
     }
 
-    tools(tree, text) {
+    /** What folds the tree that is shown, by its levels, and copies the text. */
+    tools(shown, text) {
         const tools = element("div", "tools");
         tools.setAttribute("role", "group");
         tools.setAttribute("aria-label", "Contents");
-        if (tree.deepest > 0) {
+        const { deepest } = shown();
+        if (deepest > 0) {
             tools.append(element("span", "hint", "Levels"));
-            for (let level = 0; level < Math.min(3, tree.deepest); level++) {
-                tools.append(button(String(level + 1), () => tree.foldTo(level)));
+            for (let level = 0; level < Math.min(3, deepest); level++) {
+                tools.append(button(String(level + 1), () => shown().foldTo(level)));
             }
-            tools.append(button("All", () => tree.foldTo(Infinity)));
+            tools.append(button("All", () => shown().foldTo(Infinity)));
         }
         if (navigator.clipboard) {
             tools.append(button("Copy", () => navigator.clipboard.writeText(text)));
@@ -240,9 +254,10 @@ class Stream {
         return tools;
     }
 
-    /** How much there is of a text that is cut, and a way to see more. */
-    cut(answer) {
-        const row = element("p", "cut", `Cut at ${numbered(this.limit, "byte", "bytes")} of ${answer.bytes.toLocaleString("en")}. `);
+    /** How much there is of a text that is cut, and a way to see more. Its length is known where MOST_LIMIT bytes have room for it. */
+    cut({ bytes }) {
+        const whole = bytes === 0 ? `more than ${MOST_LIMIT.toLocaleString("en")}` : bytes.toLocaleString("en");
+        const row = element("p", "cut", `Cut at ${numbered(this.limit, "byte", "bytes")} of ${whole}. `);
         if (this.limit < MOST_LIMIT) {
             row.append(button("Show more", () => {
                 this.limit *= 4;

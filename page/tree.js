@@ -1,16 +1,16 @@
-// The text of show as rows that fold by their levels: two spaces are one level. Every row is a line as it is, so that what
-// is selected or found in the page is the text.
+// The text of show as rows that fold by their levels: two spaces are one level. Every row is a line as `show --values` prints
+// it, so that what is selected or found in the page is that text.
 
 // What lies deeper than this is moved no further to the right, on a wide screen and on a narrow one.
 const DEEPEST = 24;
 const DEEPEST_NARROW = 6;
 
 class Tree {
-    constructor(text) {
+    constructor(lines, meanings) {
         this.box = element("div", "tree");
         this.box.setAttribute("role", "tree");
         this.box.setAttribute("aria-label", "Contents of the stream");
-        this.rows = text.split("\n").slice(0, -1).map((line) => this.row(line));
+        this.rows = lines.map((line, number) => this.row(line, meanings[number]));
         this.rows.forEach((row, number) => {
             const next = this.rows[number + 1];
             if (next && next.level > row.level) {
@@ -28,7 +28,7 @@ class Tree {
         this.box.addEventListener("keydown", (event) => this.pressed(event));
     }
 
-    row(line) {
+    row(line, meaning) {
         const spaces = line.length - line.trimStart().length;
         const level = spaces / 2;
         const at = element("div", "line");
@@ -38,6 +38,9 @@ class Tree {
         const shown = Math.min(level, narrow.matches ? DEEPEST_NARROW : DEEPEST);
         at.style.setProperty("--level", String(shown));
         at.append(element("span", "hidden-indent", " ".repeat(spaces - 2 * shown)), " ".repeat(2 * shown) + line.slice(spaces));
+        if (meaning) {
+            at.append(element("span", "meaning", ` (${meaning})`));
+        }
         return { at, level, isOpen: null };
     }
 

@@ -3,11 +3,12 @@
 #include "serialcheck.h"
 
 #include <jni.h>
+#include <stdbool.h>
 #include <stdlib.h>
 
 #define CALL(type, name) JNIEXPORT type JNICALL Java_serialcheck_Native_##name
 
-enum { WORDS = 12, SMALL_ROOM = 8192, MOST_TEXT = 255 };
+enum { WORDS = 12, SMALL_ROOM = 8192, MOST_TEXT = 255, FIRST_ROOM = 65536 };
 
 static void hand_out(JNIEnv *env, jlongArray out, const serialcheck_answer *a) {
     const jlong words[WORDS] = {(jlong)a->status, (jlong)a->reason, (jlong)a->from, (jlong)a->to, (jlong)a->bytes, (jlong)a->contents, (jlong)a->refs, (jlong)a->depth, (jlong)a->handles,
@@ -29,13 +30,15 @@ static jstring text_of(JNIEnv *env, uint8_t *room, const serialcheck_answer *tol
     return (*env)->NewStringUTF(env, (const char *)room);
 }
 
-/* The class name that an answer says was refused, as the program prints it without its quotes, or NULL. */
-static jstring class_of(JNIEnv *env, const uint8_t *bytes, size_t len, const serialcheck_answer *answer) {
+/* The class name that an answer says was refused, of these bytes or of a stream, as the program prints it without its quotes, or
+ * NULL. */
+static jstring class_of(JNIEnv *env, const uint8_t *bytes, size_t len, serialcheck_stream *stream, const serialcheck_answer *answer) {
     const size_t most = 6 * (size_t)(answer->name_to - answer->name_from) + 2;
     uint8_t *quoted = answer->name_to > 0 ? malloc(most) : NULL;
     serialcheck_answer told;
     jstring name = NULL;
-    if (quoted && serialcheck_class(bytes, len, answer, quoted, most, &told) == SERIALCHECK_YES && told.bytes >= 2) {
+    if (quoted && (stream ? serialcheck_stream_class(stream, quoted, most, &told) : serialcheck_class(bytes, len, answer, quoted, most, &told)) == SERIALCHECK_YES
+        && told.bytes >= 2) {
         quoted[told.bytes - 1] = 0;
         name = (*env)->NewStringUTF(env, (const char *)quoted + 1);
     }
@@ -47,6 +50,12 @@ CALL(jint, words)(JNIEnv *env, jclass class) {
     (void)env;
     (void)class;
     return WORDS;
+}
+
+CALL(jint, version)(JNIEnv *env, jclass class) {
+    (void)env;
+    (void)class;
+    return (jint)serialcheck_version();
 }
 
 CALL(jstring, line)(JNIEnv *env, jclass class, jlongArray from) {
@@ -114,7 +123,7 @@ CALL(jstring, filterCheck)(JNIEnv *env, jclass class, jlong filter, jbyteArray b
         if (copy) serialcheck_filter_check((serialcheck_filter *)(intptr_t)filter, copy, (size_t)len, &answer);
     }
     hand_out(env, out, &answer); // before the name: where the heap has no room for it, an exception is under way
-    if (answer.status == SERIALCHECK_NO) name = class_of(env, copy, (size_t)len, &answer);
+    if (answer.status == SERIALCHECK_NO) name = class_of(env, copy, (size_t)len, NULL, &answer);
     if (copy != room) free(copy);
     return name;
 }
@@ -126,6 +135,54 @@ CALL(void, filterFree)(JNIEnv *env, jclass class, jlong filter) {
     free((void *)(intptr_t)filter);
 }
 
+/* What a text is made of: the bytes, and of `list` a filter and a table of modules. */
+typedef struct {
+    uint8_t *bytes, *filter, *modules;
+    size_t len, filter_len, modules_len;
+} given;
+
+/* Writes the text of `show` or `list` into a room. */
+static void write_text(bool lists, const given *of, size_t most, uint8_t *room, size_t room_len, serialcheck_answer *answer) {
+    if (lists)
+        serialcheck_list(of->bytes, of->len, of->filter, of->filter_len, of->modules, of->modules_len, most, room, room_len, answer);
+    else
+        serialcheck_show(of->bytes, of->len, most, room, room_len, answer);
+}
+
+static jsize length_of(JNIEnv *env, jbyteArray bytes) { return bytes ? (*env)->GetArrayLength(env, bytes) : 0; }
+
+/* The text of `list`, or where there is no filter that of `show`: as much of it as `most` bytes have. Written into a small room first. */
+CALL(jbyteArray, text)(JNIEnv *env, jclass class, jbyteArray bytes, jbyteArray filter, jbyteArray modules, jint most, jlongArray out) {
+    (void)class;
+    serialcheck_answer answer = {.status = SERIALCHECK_NO_MEMORY};
+    const jsize len = length_of(env, bytes), filter_len = length_of(env, filter), modules_len = length_of(env, modules);
+    const given of = {copied(env, bytes, 0, len, NULL, 0), filter_len ? copied(env, filter, 0, filter_len, NULL, 0) : NULL, modules_len ? copied(env, modules, 0, modules_len, NULL, 0) : NULL,
+                      (size_t)len, (size_t)filter_len, (size_t)modules_len};
+    size_t room_len = most < FIRST_ROOM ? (size_t)most : FIRST_ROOM;
+    uint8_t *room = malloc(room_len + 1);
+    const bool is_given = (of.bytes || !len) && (of.filter || !filter_len) && (of.modules || !modules_len);
+    if (room && is_given) write_text(filter != NULL, &of, (size_t)most, room, room_len, &answer);
+    if (answer.status == SERIALCHECK_SMALL && room_len < (size_t)most) {
+        room_len = answer.bytes ? (size_t)answer.bytes : (size_t)most;
+        answer = (serialcheck_answer){.status = SERIALCHECK_NO_MEMORY};
+        free(room);
+        room = malloc(room_len);
+        if (room) write_text(filter != NULL, &of, (size_t)most, room, room_len, &answer);
+    }
+    free(of.bytes);
+    free(of.filter);
+    free(of.modules);
+    hand_out(env, out, &answer);
+    jbyteArray made = NULL;
+    if (answer.status == SERIALCHECK_YES || answer.status == SERIALCHECK_SMALL) {
+        const jsize written = (jsize)(answer.status == SERIALCHECK_YES ? (size_t)answer.bytes : room_len);
+        made = (*env)->NewByteArray(env, written);
+        if (made) (*env)->SetByteArrayRegion(env, made, 0, written, (const jbyte *)room);
+    }
+    free(room);
+    return made;
+}
+
 CALL(jlong, streamNew)(JNIEnv *env, jclass class, jlong filter, jlongArray out) {
     (void)class;
     serialcheck_answer answer = {.status = SERIALCHECK_SPENT};
@@ -135,13 +192,14 @@ CALL(jlong, streamNew)(JNIEnv *env, jclass class, jlong filter, jlongArray out) 
         handle = calloc(1, sizeof *handle);
         if (handle) serialcheck_stream_new((serialcheck_filter *)(intptr_t)filter, &answer, handle);
     }
-    hand_out(env, out, &answer);
     if (answer.status == SERIALCHECK_MORE) return (jlong)(intptr_t)handle;
+    if (out) hand_out(env, out, &answer);
     free(handle);
     return 0;
 }
 
-CALL(void, streamFeed)(JNIEnv *env, jclass class, jlong stream, jbyteArray bytes, jint from, jint len, jlongArray out) {
+/* The status. Of a refusal `streamAnswer` has the rest. */
+CALL(jint, streamFeed)(JNIEnv *env, jclass class, jlong stream, jbyteArray bytes, jint from, jint len) {
     (void)class;
     serialcheck_answer answer = {.status = SERIALCHECK_SPENT};
     uint8_t room[SMALL_ROOM];
@@ -151,7 +209,17 @@ CALL(void, streamFeed)(JNIEnv *env, jclass class, jlong stream, jbyteArray bytes
         if (copy) serialcheck_stream_feed((serialcheck_stream *)(intptr_t)stream, copy, (size_t)len, &answer);
         if (copy != room) free(copy);
     }
-    hand_out(env, out, &answer);
+    return (jint)answer.status;
+}
+
+/* The answer of a stream that was refused: it is the same whatever comes next, so also of no bytes. */
+CALL(jstring, streamAnswer)(JNIEnv *env, jclass class, jlong stream, jlongArray out) {
+    (void)class;
+    serialcheck_answer answer = {.status = SERIALCHECK_SPENT};
+    serialcheck_stream *handle = (serialcheck_stream *)(intptr_t)stream;
+    if (stream) serialcheck_stream_feed(handle, NULL, 0, &answer);
+    hand_out(env, out, &answer); // before the name: where the heap has no room for it, an exception is under way
+    return answer.status == SERIALCHECK_NO ? class_of(env, NULL, 0, handle, &answer) : NULL;
 }
 
 CALL(void, streamEnd)(JNIEnv *env, jclass class, jlong stream, jlongArray out) {

@@ -1,9 +1,12 @@
 /**
  * Whether bytes are one Java serialization stream that a filter admits; no class is loaded.
  *
- * All calls are synchronous and block the thread that makes them, so bound the bytes of what you check. Each call has a memory of
- * its own: any number of workers may call at once, each over its own import of this module.
+ * All calls are synchronous and block the thread that makes them, so bound the bytes of what you check. No answer depends on an
+ * earlier call. Any number of workers may call at once, each over its own import of this module.
  */
+
+/** The version of the package. */
+export const version: string;
 
 /** How a filter is asked. */
 export interface Options {
@@ -14,7 +17,8 @@ export interface Options {
 }
 
 /** What a check answers. What does not apply is null. Its text is the line that the program prints. */
-export interface Answer {
+export class Answer {
+    private constructor();
     /** Whether the bytes are one stream that the filter admits. */
     readonly ok: boolean;
     /** Of a refusal, why: a name of docs/REFUSALS.md, such as `ClassRejected`. */

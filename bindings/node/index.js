@@ -1,19 +1,18 @@
 "use strict";
-// serialcheck for Node: whether bytes are one Java serialization stream that a filter admits. The compiled code is the C
-// library as a WebAssembly module; each call gets a memory of its own, so nothing of one stream is there for the next.
+// serialcheck for Node: whether bytes are one Java serialization stream that a filter admits, by the calls of library.js.
 
 const fs = require("node:fs");
 const path = require("node:path");
+const { Library, NoMemory, STATUS } = require("./library.js");
+const { version } = require("./package.json");
 
 const STRICT = 1;
 const ANYWHERE = 2;
-const STATUS = { YES: 0, NO: 1, MISUSE: 2, NO_MEMORY: 3, SMALL: 6 };
-const ANSWER_BYTES = 88;
 const MOST_TEXT = 1 << 24;
-// More bytes than a line, a name or a sentence of the library has.
-const MOST_WORDS = 255;
 
-const compiled = new WebAssembly.Module(fs.readFileSync(path.join(__dirname, "serialcheck.wasm")));
+const library = new Library(new WebAssembly.Module(fs.readFileSync(path.join(__dirname, "serialcheck.wasm"))));
+// What an array says of itself, whatever a class below it says.
+const [bufferOf, offsetOf, lengthOf] = ["buffer", "byteOffset", "length"].map((it) => Object.getOwnPropertyDescriptor(Object.getPrototypeOf(Uint8Array.prototype), it).get);
 
 /** The compiled code could not answer, for want of memory. */
 class OutOfMemory extends Error {
@@ -27,9 +26,22 @@ class OutOfMemory extends Error {
 class Answer {
     #line;
 
-    constructor(fields, line) {
+    constructor({ status, line, reason = null, meaning = null, className = null, from, to, bytes, contents, refs, depth, handles, whole }) {
+        const ok = status === STATUS.YES;
+        const [ofYes, ofNo] = [(it) => (ok ? it : null), (it) => (ok ? null : it)];
         this.#line = line;
-        Object.assign(this, fields);
+        this.ok = ok;
+        this.reason = reason;
+        this.meaning = meaning;
+        this.from = ofNo(from);
+        this.to = ofNo(to);
+        this.className = className && className.slice(1, -1);
+        this.bytes = ofYes(bytes);
+        this.contents = ofYes(contents);
+        this.refs = ofYes(refs);
+        this.depth = ofYes(depth);
+        this.handles = ofYes(handles);
+        this.whole = whole;
         Object.freeze(this);
     }
 
@@ -39,102 +51,24 @@ class Answer {
     }
 }
 
-/** The compiled code with a memory of its own. In its calls a place is a number and a length a BigInt. */
-class Engine {
-    constructor() {
-        this.calls = new WebAssembly.Instance(compiled).exports;
-        this.place = this.room(ANSWER_BYTES);
-    }
-
-    room(length) {
-        const place = this.calls.page_room(length) >>> 0;
-        if (place === 0) {
-            throw new OutOfMemory();
-        }
-        return place;
-    }
-
-    /** Bytes as two arguments of a call. */
-    given(bytes) {
-        const place = this.room(bytes.length);
-        new Uint8Array(this.calls.memory.buffer, place, bytes.length).set(bytes);
-        return [place, BigInt(bytes.length)];
-    }
-
-    /** The struct of include/serialcheck.h. */
-    answer(place = this.place) {
-        const view = new DataView(this.calls.memory.buffer, place, ANSWER_BYTES);
-        const number = (at) => Number(view.getBigUint64(at, true));
-        return {
-            status: view.getUint32(0, true), number: view.getUint32(4, true), from: number(8), to: number(16), bytes: number(24),
-            contents: number(32), refs: number(40), depth: number(48), handles: number(56), nameFrom: number(64), nameTo: number(72), whole: number(80),
-        };
-    }
-
-    /** The text that a call of the library writes of these arguments, of at most `most` bytes; null where there is none. */
-    words(call, of, most = MOST_WORDS) {
-        const [room, told] = [this.room(most), this.room(ANSWER_BYTES)];
-        this.calls[`serialcheck_${call}`](...of, room, BigInt(most), told);
-        const { status, bytes } = this.answer(told);
-        if (status === STATUS.NO_MEMORY) {
-            throw new OutOfMemory();
-        }
-        return status === STATUS.YES ? new TextDecoder().decode(new Uint8Array(this.calls.memory.buffer, room, bytes)) : null;
-    }
-
-    /** The class that the answer at hand to a check of given bytes says was refused, as the program prints it without its quotes; or null. */
-    className(given) {
-        const { nameFrom, nameTo } = this.answer();
-        const quoted = nameTo === 0 ? null : this.words("class", [...given, this.place], 6 * (nameTo - nameFrom) + 2);
-        return quoted && quoted.slice(1, -1);
-    }
-
-    /** The answer at hand: with the class that was refused, where it is to a check of given bytes. What is neither a yes nor a no is thrown. */
-    settled(given = null) {
-        const { status, number, from, to, bytes, contents, refs, depth, handles, whole } = this.answer();
-        const line = this.words("line", [this.place])?.trimEnd();
-        switch (status) {
-            case STATUS.YES:
-                return new Answer({ ok: true, reason: null, meaning: null, from: null, to: null, className: null, bytes, contents, refs, depth, handles, whole }, line);
-            case STATUS.NO: {
-                const [reason, meaning] = ["reason_name", "reason_text"].map((it) => this.words(it, [number]));
-                const className = given && this.className(given);
-                return new Answer({ ok: false, reason, meaning, from, to, className, bytes: null, contents: null, refs: null, depth: null, handles: null, whole }, line);
-            }
-            case STATUS.MISUSE:
-                throw Object.assign(new TypeError(`serialcheck: ${line}`), { piece: from });
-            default:
-                throw new OutOfMemory();
-        }
-    }
-
-    /** As many whole lines of the text of a call as `most` bytes have, or the refusal of bytes that are no stream. */
-    text(most, call) {
-        const room = this.room(most);
-        call(room);
-        const { status, bytes } = this.answer();
-        const isCut = status === STATUS.SMALL;
-        if (!isCut && status !== STATUS.YES) {
-            return { answer: this.settled(), isCut, text: "" };
-        }
-        const written = new Uint8Array(this.calls.memory.buffer, room, isCut ? most : bytes);
-        const lines = isCut ? written.subarray(0, written.lastIndexOf(0x0a) + 1) : written;
-        return { answer: null, isCut, text: new TextDecoder().decode(lines) };
-    }
-}
-
-/** Runs the compiled code. One that is stopped in the middle, by the end of its stack or memory, is never a yes. */
+/** What the compiled code answers. Where it is stopped in the middle, by the end of its stack or memory, that is never a yes. */
 function asked(question) {
+    let found;
     try {
-        return question(new Engine());
+        found = library.ask(question);
     } catch (fault) {
-        throw fault instanceof WebAssembly.RuntimeError || fault instanceof RangeError ? new OutOfMemory() : fault;
+        throw fault instanceof NoMemory || fault instanceof WebAssembly.RuntimeError || fault instanceof RangeError ? new OutOfMemory() : fault;
     }
+    if (found.status === STATUS.MISUSE) {
+        throw Object.assign(new TypeError(`serialcheck: ${found.line}`), { piece: found.from });
+    }
+    return found;
 }
 
+/** The bytes that an array or a buffer holds. */
 function bytesOf(data) {
     if (data instanceof Uint8Array) {
-        return data;
+        return new Uint8Array(bufferOf.call(data), offsetOf.call(data), lengthOf.call(data));
     }
     if (data instanceof ArrayBuffer) {
         return new Uint8Array(data);
@@ -150,47 +84,48 @@ function textOf(text, fault) {
     return new TextEncoder().encode(text);
 }
 
-function check(data, filter = "", { strict = false, anywhere = false } = {}) {
-    const bytes = bytesOf(data);
-    const text = textOf(filter, "the filter is not text");
-    const flags = (strict ? STRICT : 0) | (anywhere ? ANYWHERE : 0);
-    return asked((engine) => {
-        const given = engine.given(bytes);
-        engine.calls.serialcheck_check(...given, ...engine.given(text), flags, engine.place);
-        return engine.settled(given);
-    });
+function flagsOf({ strict = false, anywhere = false }) {
+    return (strict ? STRICT : 0) | (anywhere ? ANYWHERE : 0);
+}
+
+/** Checks bytes under the bytes of a filter's text. */
+function checked(bytes, text, flags) {
+    return new Answer(asked((engine) => engine.check(bytes, text, flags)));
+}
+
+function check(data, filter = "", options = {}) {
+    return checked(bytesOf(data), textOf(filter, "the filter is not text"), flagsOf(options));
 }
 
 class Filter {
     #text;
-    #options;
+    #flags;
 
-    constructor(filter = "", { strict = false, anywhere = false } = {}) {
-        this.#text = filter;
-        this.#options = { strict, anywhere };
+    constructor(filter = "", options = {}) {
+        this.#text = textOf(filter, "the filter is not text");
+        this.#flags = flagsOf(options);
         this.check(new Uint8Array());
     }
 
     check(data) {
-        return check(data, this.#text, this.#options);
+        return checked(bytesOf(data), this.#text, this.#flags);
     }
+}
+
+/** A text with whether it goes on, or the refusal of the bytes. */
+function textFound(found) {
+    return found.text === undefined ? { answer: new Answer(found), isCut: false, text: "" } : { answer: null, isCut: found.status === STATUS.SMALL, text: found.text };
 }
 
 function show(data, { most = MOST_TEXT } = {}) {
     const bytes = bytesOf(data);
-    return asked((engine) => {
-        const given = engine.given(bytes);
-        return engine.text(most, (room) => engine.calls.serialcheck_show(...given, BigInt(most), room, BigInt(most), engine.place));
-    });
+    return textFound(asked((engine) => engine.show(bytes, most)));
 }
 
 function list(data, filter = "", { modules = "", most = MOST_TEXT } = {}) {
     const bytes = bytesOf(data);
-    const texts = [textOf(filter, "the filter is not text"), textOf(modules, "the table of modules is not text")];
-    return asked((engine) => {
-        const given = [bytes, ...texts].flatMap((it) => engine.given(it));
-        return engine.text(most, (room) => engine.calls.serialcheck_list(...given, BigInt(most), room, BigInt(most), engine.place));
-    });
+    const [text, table] = [textOf(filter, "the filter is not text"), textOf(modules, "the table of modules is not text")];
+    return textFound(asked((engine) => engine.list(bytes, text, table, most)));
 }
 
-module.exports = { check, Filter, show, list, Answer, OutOfMemory };
+module.exports = { check, Filter, show, list, version, Answer, OutOfMemory };

@@ -138,7 +138,7 @@ static long wrong_answers(void) {
 
 static void *in_thread(void *unused) {
     (void)unused;
-    return (void *)wrong_answers();
+    return (void *)(intptr_t)wrong_answers();
 }
 
 static void print(const serialcheck_answer *a) {
@@ -184,7 +184,7 @@ int main(int words, char **word) {
     for (int i = 0; i < THREADS; i++) {
         void *some;
         pthread_join(threads[i], &some);
-        wrong += (long)some;
+        wrong += (long)(intptr_t)some;
     }
     for (int i = 0; i < count; i++) free(files[i].bytes);
     free(files);

@@ -20,6 +20,26 @@ static size_t read_file(const char *path, uint8_t *bytes, size_t most) {
     return len;
 }
 
+/* The class that a stream in pieces of so many bytes was refused for is the one that the answer to all bytes names. */
+static void compare(const serialcheck_filter *filter, const uint8_t *bytes, size_t len, size_t piece, const serialcheck_answer *answer) {
+    static uint8_t named[1 << 19], found[1 << 19];
+    serialcheck_answer fed, wanted, told;
+    serialcheck_stream stream = SERIALCHECK_NONE;
+    if (serialcheck_stream_class(&stream, found, sizeof found, &told) != SERIALCHECK_SPENT) stop("a class of no stream");
+    if (serialcheck_stream_new(filter, &fed, &stream) != SERIALCHECK_MORE) stop("no stream");
+    for (size_t at = 0; at < len && fed.status == SERIALCHECK_MORE; at += piece) {
+        if (serialcheck_stream_class(&stream, found, sizeof found, &told) != SERIALCHECK_SPENT) stop("a class before it is refused");
+        serialcheck_stream_feed(&stream, bytes + at, len - at < piece ? len - at : piece, &fed);
+    }
+    const uint32_t status = serialcheck_class(bytes, len, answer, named, sizeof named, &wanted);
+    if (serialcheck_stream_class(&stream, found, sizeof found, &told) != status) stop("another status of a stream");
+    if (status == SERIALCHECK_YES && (told.bytes != wanted.bytes || memcmp(named, found, (size_t)told.bytes))) stop("another class of a stream");
+    if (status == SERIALCHECK_YES && serialcheck_stream_class(&stream, found, 1, &told) != SERIALCHECK_SMALL) stop("a class in a small room");
+    if (status == SERIALCHECK_YES && (serialcheck_stream_feed(&stream, bytes, len, &fed), serialcheck_stream_class(&stream, found, sizeof found, &told)) != status) stop("it does not stay");
+    serialcheck_stream_end(&stream, &fed);
+    if (serialcheck_stream_class(&stream, found, sizeof found, &told) != SERIALCHECK_SPENT) stop("a class of a stream that ended");
+}
+
 static void print(const uint8_t *bytes, size_t len, const serialcheck_answer *answer) {
     static uint8_t room[1 << 19];
     serialcheck_answer told;
@@ -46,6 +66,7 @@ int main(int words, char **word) {
         const size_t len = read_file(word[i], bytes, sizeof bytes);
         serialcheck_filter_check(&filter, bytes, len, &answer);
         print(bytes, len, &answer);
+        for (size_t piece = 1; piece <= 4096; piece *= 8) compare(&filter, bytes, len, piece, &answer);
     }
     serialcheck_filter_free(&filter);
     return 0;

@@ -4,7 +4,7 @@ from pathlib import Path
 
 TOP = Path(__file__).resolve().parent.parent.parent
 # Python has other names for some of them.
-IN_PYTHON = {"number": "reason", "start": "from", "end": "to", "name_start": "name_from", "name_end": "name_to"}
+IN_PYTHON = {"number": "reason", "from_byte": "from", "to_byte": "to"}
 STRUCT = re.search(r"^typedef struct \{(.*?)^\} serialcheck_answer;", (TOP / "include/serialcheck.h").read_text(encoding="ascii"), re.M | re.S)[1]
 FIELDS = re.findall(r"^ +(uint\d+_t) (\w+);", STRUCT, re.M)
 SIZES = {"uint32_t": "u32", "uint64_t": "u64"}
@@ -20,7 +20,7 @@ def fields_in_lua(file):
 
 
 for file, found in {
-    "bindings/rust/first.rs": [({size: it for it, size in SIZES.items()}[size], name) for name, size in re.findall(r"pub (\w+): (\w+),", text_between("bindings/rust/first.rs", "pub struct Answer {", "}"))],
+    "bindings/rust/src/raw.rs": [({size: it for it, size in SIZES.items()}[size], name) for name, size in re.findall(r"pub (\w+): (\w+),", text_between("bindings/rust/src/raw.rs", "pub struct Answer {", "}"))],
     **{file: list(fields_in_lua(file)) for file in ("bindings/luajit/first.lua", "integrations/nginx/serialcheck/library.lua")},
     "bindings/python/serialcheck/__init__.py": [(f"{size}_t", IN_PYTHON.get(name, name)) for name, size in re.findall(r'\("(\w+)", ctypes\.c_(\w+)\)', text_between("bindings/python/serialcheck/__init__.py", "_fields_ = [", "]"))],
 }.items():

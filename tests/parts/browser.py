@@ -8,7 +8,7 @@ import tempfile
 import time
 
 PROGRAMS = ("chromium", "chromium-browser", "google-chrome", "chrome")
-PATIENCE = 30
+PATIENCE = 120
 
 
 def program():

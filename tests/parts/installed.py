@@ -37,6 +37,20 @@ def compiled(folder, path, *files):
     return folder
 
 
+def wrong_objects(folder, number):
+    """The objects of the C library with the wrong answer of this number (tests/packages/wrong.c)."""
+    folder.mkdir()
+    subprocess.run(["ar", "x", TOP / "out" / "library" / "libserialcheck.a"], cwd=folder, check=True)
+    for it in folder.glob("*.o"):
+        subprocess.run(["objcopy", "--redefine-sym=serialcheck_filter_check=right_serialcheck_filter_check", it], check=True)
+    subprocess.run(["cc", "-std=c99", "-Wall", "-Wextra", "-Werror", "-fPIC", f"-DWRONG={number}", "-I", TOP / "include", "-c", "-o", folder / "wrong.o", TOP / "tests" / "packages" / "wrong.c"], check=True)
+    return sorted(folder.glob("*.o"))
+
+
+# The right answers that the wrong ones of tests/packages/wrong.c stand for; 0 is none.
+WRONG = {0: None, 1: "yes 62 bytes, 1 contents, 3 refs, depth 2", 2: "no at 6 to 27: ClassRejected", 3: "no at 6 to 10: HiddenName"}
+
+
 def told_by_program(*words):
     """What the program prints and tells, but that a filter has no pattern, which packages do not tell."""
     return run(PROGRAM, *words)[1].replace("filter has no pattern\n", "")

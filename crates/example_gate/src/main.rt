@@ -8,7 +8,7 @@ ghost use Rattle.jser_verdict.specs.Gates.{pass, rejected};
 ghost use Rattle.jser_reader.specs.Gates.{open_gate};
 
 use anyhow::{Result, bail};
-use serialstream::{Answer, Gate, GateLimits, OpenGate, Reader};
+use serialstream::{Answer, Gate, OpenGate, Reader};
 use std::alloc::{AllocError, Global};
 use std::env;
 use std::io::Read;
@@ -48,11 +48,24 @@ impl Gate for Beginning {
         }
     }
 
-    fn limits(&self) -> GateLimits {
-        GateLimits {
-            refs: 1000,
-            ..OpenGate.limits()
-        }
+    fn max_bytes(&self) -> u64 {
+        OpenGate.max_bytes()
+    }
+
+    fn max_depth(&self) -> u32 {
+        OpenGate.max_depth()
+    }
+
+    fn max_refs(&self) -> u64 {
+        1000
+    }
+
+    fn max_array(&self) -> u32 {
+        OpenGate.max_array()
+    }
+
+    fn max_handles(&self) -> u32 {
+        OpenGate.max_handles()
     }
 
     ghost use Rattle.std.proofs.Common.{rules};

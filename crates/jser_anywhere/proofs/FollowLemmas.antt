@@ -62,9 +62,9 @@ class_same None group kept = refl
 class_same (Some k) group kept = refl
 
 text_hidden_by : (passes : List ℕ → Bool) (place : ℕ) (whose : Whose) (left : ℕ) (group : Place) (skip : Option ℕ) (kept : List ℕ)
-    → hidden_of passes place (ended_with (text whose left (reading_of skip group kept))) ≡ (if left == 0 then hidden_of passes place (class_behind skip group kept) else None)
+    → hidden_of passes place (ended_with (text whose left (reading_of skip group kept))) ≡ hidden_of passes place (if left == 0 then class_behind skip group kept else None)
 text_hidden_by passes place whose zero group skip kept = ap (λ o. hidden_of passes place o) (class_same skip group kept)
-text_hidden_by passes place whose (suc left) group skip kept = sym (ap (λ b. if b then hidden_of passes place (class_behind skip group kept) else None) (not_zero left))
+text_hidden_by passes place whose (suc left) group skip kept = sym (ap (λ b. hidden_of passes place (if b then class_behind skip group kept else None)) (not_zero left))
 
 name_hidden_is : (passes : List ℕ → Bool) (slot_place : ℕ) (n : Option Name) (kept : List ℕ) → IfSome (name_place n) (λ p. slot_place ≡ p)
     → hidden_of passes slot_place (ended_with (name_stage n kept)) ≡ name_hidden passes n kept

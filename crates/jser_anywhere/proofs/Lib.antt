@@ -22,3 +22,4 @@ pub mod ReadLemmas
 pub mod LoadableLemmas
 pub mod NamesLemmas
 pub mod NamedLemmas
+pub mod WholeLemmas

@@ -196,7 +196,7 @@ noted_letter count recent kept at left skip byte e =
 
 hidden_none : (passes : List ℕ → Bool) (count : ℕ) (recent : Recent) (kept : List ℕ) (at left skip : ℕ) → (left == 0) ≡ false
     → noted_hidden passes (the_scan count recent kept (the_name at left skip)) ≡ None
-hidden_none passes count recent kept at left skip e = ap (λ b. lower (if b then hidden_of passes at (core (drop skip kept)) else None) None) e
+hidden_none passes count recent kept at left skip e = ap (λ b. lower (hidden_of passes at (if b then core (drop skip kept) else None)) None) e
 
 none_hidden : (passes : List ℕ → Bool) (count : ℕ) (recent : Recent) (kept : List ℕ) (at left skip byte : ℕ) → (left == 0) ≡ false → is_letter byte ≡ true
     → scan_hidden passes (the_scan count recent kept (the_name at left skip)) byte ≡ None

@@ -75,9 +75,13 @@ abbrev pub class_behind : (skip : Option ℕ) → Place → (kept : List ℕ) �
 class_behind None group kept = None
 class_behind (Some skip) group kept = if is_first group then core (drop skip kept) else None
 
--- the place of the name that ended with the last byte, if one did and it does not pass
+-- the class that the name names which ended with the last byte, if one did
+abbrev pub text_class : Text → (kept : List ℕ) → Option (List ℕ)
+text_class t kept = if t.left == 0 then class_behind t.skip t.group kept else None
+
+-- the place of that name, if it does not pass
 abbrev pub text_hidden : (List ℕ → Bool) → (place : ℕ) → Text → (kept : List ℕ) → Option ℕ
-text_hidden passes place t kept = if t.left == 0 then hidden_of passes place (class_behind t.skip t.group kept) else None
+text_hidden passes place t kept = hidden_of passes place (text_class t kept)
 
 -- ---- a descriptor's name
 

@@ -4,6 +4,7 @@ ghost use Rattle.jser_anywhere.specs.NamesIn.{TellsNext, class_in, names_in, row
 
 use crate::class::named_class;
 use crate::name::Units;
+use crate::recent::number_of;
 use crate::search::text_of;
 use arrayvec::ArrayVec;
 use jser_grammar::wire::{TC_CLASSDESC, TC_PROXYCLASSDESC};
@@ -182,7 +183,7 @@ fn row_of(bytes: &[u8]) -> RowHead
         [TC_CLASSDESC, ..] => RowHead { head: 1, most: 1 },
         [TC_PROXYCLASSDESC, 0, 0, high, low, ..] => RowHead {
             head: 5,
-            most: u32::from(*high) * 256 + u32::from(*low),
+            most: u32::from(number_of(*high, *low)),
         },
         _ => RowHead { head: 0, most: 0 },
     }

@@ -1,9 +1,9 @@
 //! What a scan is reading: a descriptor's name, and rows of texts.
-ghost use Rattle.std.specs.Prelude.{◌≡◌, ◌∷◌, Some, None, List, ℕ, Bool, length, IfSome};
+ghost use Rattle.std.specs.Prelude.{◌≡◌, ◌∷◌, Some, None, List, ℕ, Bool, length, IfSome, false};
 ghost use Rattle.std.specs.Option.{option_map};
 ghost use Rattle.jser_anywhere.specs.Stages.{descriptor, row, in_name};
 ghost use Rattle.jser_anywhere.specs.Texts.{Fits, take_byte};
-ghost use Rattle.jser_anywhere.specs.Steps.{AtFits, as_name, at_hidden, at_onward, at_taken, at_with, new_text, one_less, text_begins, text_hidden, text_onward, text_with, name_onward, name_with};
+ghost use Rattle.jser_anywhere.specs.Steps.{AtFits, as_name, at_hidden, at_onward, at_taken, at_with, new_text, one_less, text_begins, text_class, text_hidden, text_onward, text_with, name_onward, name_with};
 
 use crate::class::named_class;
 use crate::hidden::Judge;
@@ -99,9 +99,9 @@ impl Text {
         }
     }
 
-    /// The place of the name that ended with the last byte, if one did and it does not pass.
-    fn hidden<J: Judge>(self, place: u64, kept: &[u16], judge: &J) -> Option<u64>
-        ensures { result ≡ text_hidden (J.passes judge.now) place self kept.now }
+    /// The class that the name names which ended with the last byte, if one did.
+    fn class<'k>(self, kept: &'k [u16]) -> Option<&'k [u16]>
+        ensures { option_map (λ name. name.now) result ≡ text_class self kept.now }
     {
         if self.left > 0 {
             return None;
@@ -113,8 +113,25 @@ impl Text {
             return None;
         }
         let (_, units) = kept.split_at(skip.min(kept.len()));
-        match named_class(units) {
+        named_class(units)
+    }
+
+    /// The place of the name that ended with the last byte, if one did and it does not pass.
+    fn hidden<J: Judge>(self, place: u64, kept: &[u16], judge: &J) -> Option<u64>
+        ensures { result ≡ text_hidden (J.passes judge.now) place self kept.now }
+    {
+        match self.class(kept) {
             Some(name) if !judge.passes(name) => Some(place),
+            _ => None,
+        }
+    }
+
+    /// The class that the name names which ended with the last byte, if one did and it does not pass.
+    fn hidden_class<'k, J: Judge>(self, kept: &'k [u16], judge: &J) -> Option<&'k [u16]>
+        ensures { IfSome result (λ name. J.passes judge.now name.now ≡ false) }
+    {
+        match self.class(kept) {
+            Some(name) if !judge.passes(name) => Some(name),
             _ => None,
         }
     }
@@ -160,6 +177,22 @@ impl Name {
         ensures { result ≡ text_hidden (J.passes judge.now) self.place self.text kept.now }
     {
         self.text.hidden(self.place, kept, judge)
+    }
+
+    /// The class that it names, if its place is this one, and it ended with the last byte and does not pass.
+    pub(crate) fn hidden_class<'k, J: Judge>(
+        self,
+        place: u64,
+        kept: &'k [u16],
+        judge: &J,
+    ) -> Option<&'k [u16]>
+        ensures { IfSome result (λ name. J.passes judge.now name.now ≡ false) }
+    {
+        if self.place == place {
+            self.text.hidden_class(kept, judge)
+        } else {
+            None
+        }
     }
 
     /// After the byte that it has taken.
@@ -214,6 +247,21 @@ impl Row {
         match self.at {
             RowAt::Between | RowAt::Halfway(_) => None,
             RowAt::Text(text) => text.hidden(self.place, kept, judge),
+        }
+    }
+
+    /// The class that a name of it names, if its place is this one, and the name ended with the last byte and does not pass.
+    pub(crate) fn hidden_class<'k, J: Judge>(
+        self,
+        place: u64,
+        kept: &'k [u16],
+        judge: &J,
+    ) -> Option<&'k [u16]>
+        ensures { IfSome result (λ name. J.passes judge.now name.now ≡ false) }
+    {
+        match self.at {
+            RowAt::Text(text) if self.place == place => text.hidden_class(kept, judge),
+            _ => None,
         }
     }
 

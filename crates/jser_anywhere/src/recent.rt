@@ -1,7 +1,8 @@
 //! The last bytes, and what begins with the next one.
-ghost use Rattle.std.specs.Prelude.{◌≡◌, ◌≤◌, length};
+ghost use Rattle.std.specs.Prelude.{◌≡◌, ◌+◌, ◌*◌, ◌≤◌, length};
 ghost use Rattle.jser_anywhere.specs.Steps.{left_of, name_left, no_recent, recent_in, row_left, with_byte};
 
+use byteorder::{BigEndian, ByteOrder};
 use jser_grammar::wire::{TC_CLASSDESC, TC_PROXYCLASSDESC};
 
 /// The last six bytes. Where there were not so many, 0xFF stands for those that are missing: no name begins with it.
@@ -24,11 +25,18 @@ pub(crate) struct Begun {
     pub(crate) left: u16,
 }
 
+/// The number in two bytes, the higher first.
+pub(crate) fn number_of(high: u8, low: u8) -> u16
+    ensures { result ≡ high * 256 + low }
+{
+    BigEndian::read_u16(&[high, low])
+}
+
 /// How many bytes follow the next one of a text of this length, if it is the length of one.
 pub(crate) fn left_of(high: u8, low: u8) -> Option<u16>
     ensures { result ≡ left_of high low }
 {
-    let len = u16::from(high) * 256 + u16::from(low);
+    let len = number_of(high, low);
     if len >= 1 && len <= 9215 {
         Some(len - 1)
     } else {
@@ -99,7 +107,7 @@ impl Recent {
         if self.sixth != TC_PROXYCLASSDESC || self.fifth != 0 || self.fourth != 0 {
             return None;
         }
-        let count = u16::from(self.third) * 256 + u16::from(self.second);
+        let count = number_of(self.third, self.second);
         if count == 0 {
             return None;
         }

@@ -1,5 +1,5 @@
 //! The scan in pieces: it keeps the last six bytes, and the units of the texts that may be names.
-ghost use Rattle.std.specs.Prelude.{◌≡◌, ◌≤◌, ◌-◌, ◌+◌, ◌++◌, true, false, [], ◌∷◌, Bool, List, ℕ, Some, None, length};
+ghost use Rattle.std.specs.Prelude.{◌≡◌, ◌≤◌, ◌-◌, ◌+◌, ◌++◌, true, false, [], ◌∷◌, Bool, List, ℕ, Some, None, length, IfOk, IfSome};
 ghost use Rattle.jser_anywhere.specs.Slots.{lower};
 ghost use Rattle.jser_anywhere.specs.Steps.{HasRoom, NameFits, RowFits, gone_on, keeping, kept_with, name_after, name_hidden, name_left, name_taken, name_with, noted, noted_hidden, or_taken, past, read_past, reading, row_after, row_hidden, row_taken, row_with, scan_after, scan_hidden, taken_by, with_row};
 ghost use Rattle.jser_anywhere.specs.Scans.{HasScanned, Hurries, TakesBytes};
@@ -10,12 +10,12 @@ use crate::open::{Name, Row, RowAt, Text};
 use crate::quiet::{may_begin, quiet_until, text_until};
 use crate::recent::{Begun, Recent};
 use crate::text::{Place, Taken};
-use arrayvec::ArrayVec;
+use std::alloc::{AllocError, Global};
 use std::marker::Model;
 
 /// A scan of bytes that come in pieces, for the first name that can be read at any place and does not pass.
 ///
-/// Takes no memory: it has room for the units of the names that are being read, some 18 kilobytes.
+/// It has room for the units of the names that are being read, some 18 kilobytes, which `new` takes.
 #[derive(Drop)]
 pub struct Scan {
     count: u64,
@@ -31,23 +31,42 @@ impl Model for Scan {
 
     ghost Value = { Scanning };
 
-    ghost view = { λ a. record { count = a.count; recent = a.recent; kept = a.kept.items; name = a.name; even = a.even; odd = a.odd } };
+    ghost view = { λ a. record { count = a.count; recent = a.recent; kept = a.kept; name = a.name; even = a.even; odd = a.odd } };
 }
 
 impl Scan {
     /// No bytes so far.
+    ///
+    /// # Errors
+    ///
+    /// Where there is no memory for the names.
     #[tactic(auto, using(crate::proofs::TakeLemmas::scanned_none))]
-    pub fn new() -> Scan
-        ensures nothing { (passes : List ℕ → Bool) → HasScanned passes [] result }
+    pub fn new(alloc: Global) -> Result<Scan, AllocError>
+        ensures nothing { IfOk result (λ scan. (passes : List ℕ → Bool) → HasScanned passes [] scan) }
     {
-        Scan {
-            count: 0,
-            recent: Recent::none(),
-            kept: ArrayVec::new(),
-            name: None,
-            even: None,
-            odd: None,
+        match Letters::new(alloc) {
+            Ok(kept) => Ok(Scan {
+                count: 0,
+                recent: Recent::none(),
+                kept,
+                name: None,
+                even: None,
+                odd: None,
+            }),
+            Err(error) => Err(error),
         }
+    }
+
+    /// Makes it a scan of no bytes. It keeps its memory.
+    pub fn restart(&mut self)
+        ensures nothing { (passes : List ℕ → Bool) → HasScanned passes [] self.new }
+    {
+        self.count = 0;
+        self.recent = Recent::none();
+        self.kept.clear();
+        self.name = None;
+        self.even = None;
+        self.odd = None;
     }
 
     /// Takes more bytes: the first hidden name of all bytes so far, if one ends in these.
@@ -66,6 +85,23 @@ impl Scan {
             at = self.hurry(piece, at + 1);
         }
         None
+    }
+
+    /// The class that the hidden name names which the last call of `feed` told; `None` where it told none. Takes no memory.
+    pub fn hidden_class<J: Judge>(&self, judge: &J) -> Option<&[u16]>
+        ensures { IfSome result (λ name. J.passes judge.now name.now ≡ false) }
+    {
+        let place = self.hidden(judge)?;
+        let kept = self.kept.as_slice();
+        if let Some(name) = self.name
+            && let Some(class) = name.hidden_class(place, kept, judge)
+        {
+            return Some(class);
+        }
+        match row_class(self.even, place, kept, judge) {
+            Some(class) => Some(class),
+            None => row_class(self.odd, place, kept, judge),
+        }
     }
 
     /// One byte more.
@@ -280,7 +316,7 @@ impl Scan {
     {
         match taken {
             Taken::Unit(unit) => {
-                let _ = self.kept.try_push(unit);
+                self.kept.push(unit);
             }
             Taken::Part(_) => {}
             Taken::Refused => {
@@ -391,6 +427,20 @@ fn row_hidden<J: Judge>(row: Option<Row>, kept: &[u16], judge: &J) -> Option<u64
 {
     match row {
         Some(row) => row.hidden(kept, judge),
+        None => None,
+    }
+}
+
+fn row_class<'k, J: Judge>(
+    row: Option<Row>,
+    place: u64,
+    kept: &'k [u16],
+    judge: &J,
+) -> Option<&'k [u16]>
+    ensures { IfSome result (λ name. J.passes judge.now name.now ≡ false) }
+{
+    match row {
+        Some(row) => row.hidden_class(place, kept, judge),
         None => None,
     }
 }

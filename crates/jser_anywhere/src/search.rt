@@ -6,6 +6,7 @@ ghost use Rattle.jser_anywhere.specs.Search.{TellsFirst, TellsText, hidden_here,
 use crate::class::named_class;
 use crate::hidden::{Hidden, Judge};
 use crate::name::{MOST_BYTES, Units, read_text};
+use crate::recent::number_of;
 use arrayvec::ArrayVec;
 use jser_grammar::wire::{TC_CLASSDESC, TC_PROXYCLASSDESC};
 
@@ -17,7 +18,7 @@ pub(crate) fn text_of(bytes: &[u8], units: &mut Units) -> Option<usize>
 {
     match bytes {
         [high, low, rest @ ..] => {
-            let len = usize::from(*high) * 256 + usize::from(*low);
+            let len = usize::from(number_of(*high, *low));
             if len >= 1 && len <= MOST_BYTES && len <= rest.len() {
                 let (text, _) = rest.split_at(len);
                 if read_text(text, units) {
@@ -77,7 +78,7 @@ fn hidden_here<J: Judge>(bytes: &[u8], judge: &J, units: &mut Units) -> Option<u
     match bytes {
         [TC_CLASSDESC, rest @ ..] => { row_hidden(rest, 1, judge, units).map(|end| 1 + end) }
         [TC_PROXYCLASSDESC, 0, 0, high, low, rest @ ..] => {
-            let most = u32::from(*high) * 256 + u32::from(*low);
+            let most = u32::from(number_of(*high, *low));
             row_hidden(rest, most, judge, units).map(|end| 5 + end)
         }
         _ => None,

@@ -1,61 +1,21 @@
 -- From what a reader tells under a gate to what a check answers of a filter.
-use Rattle.std.specs.Prelude.{IfOk, IfErr}
-use Rattle.std.proofs.Common.{◌≡◌, ◌≢◌, ℕ, ◌+◌, ◌≤◌, List, [], ◌∷◌, ◌++◌, length, take, drop, Result, Ok, Err, inl, inr, refl, sym, ◌∙◌, ap, subst, arith, append-nil, length-append, length-take-le, take-append-drop}
-use Rattle.jser_grammar.specs.Parts.{IsBytes}
-use Rattle.jser_grammar.specs.Trees.{ContentTrees}
+use Rattle.std.proofs.Common.{ℕ, ◌≤◌, List, [], ◌++◌, take, drop, inl, inr, refl, sym, subst, arith, take-append-drop}
 use Rattle.jser_verdict.specs.Reasons.{Reason as ToldReason}
-use Rattle.jser_verdict.specs.Reasons.{bytes_exceeded, bad_header, bad_tag, exception_tag, reset_inside, bad_text, negative_length, bad_type_code, field_order, bad_flags, null_class, no_such_handle, wrong_kind, open_descriptor, bad_array_name, wrong_class, external_raw, not_serializable, class_rejected, class_unmatched, depth_exceeded, refs_exceeded, array_exceeded, truncated, handle_space}
+use Rattle.jser_verdict.specs.Reasons.{truncated}
 use Rattle.jser_verdict.specs.Gates.{Gate}
-use Rattle.jser_verdict.specs.Passing.{Passes}
-use Rattle.jser_verdict.specs.FirstFault.{IsFault, IsFirstFault}
+use Rattle.jser_verdict.specs.FirstFault.{IsFirstFault}
 use Rattle.jser_verdict.proofs.ByteLists.{bytes_right}
-use Rattle.jser_reader.specs.declared.Reason.TheVariants as reason
 use Rattle.jser_reader.specs.declared.Refusal.{Refusal}
-use Rattle.jser_reader.specs.declared.Stop.{Stop}
-use Rattle.jser_reader.specs.declared.Stop.TheVariants as stop
 use Rattle.jser_reader.specs.declared.Totals.{Totals}
-use Rattle.jser_reader.specs.Reasons.{named}
-use Rattle.jser_reader.specs.Streams.{AreRefused, AreTruncated}
-use Rattle.jser_reader.specs.ReaderStates.{Reading, StandsFor}
+use Rattle.jser_reader.specs.Streams.{AreTruncated}
 use Rattle.jser_filter.specs.Filters.{FilterView}
 use Rattle.jser_check.specs.declared.gate.Options.{Options}
-use Rattle.jser_check.specs.Admitted.{AreAdmitted, FilterWith, gate_of_filter}
-use Rattle.jser_check.specs.Feeding.{Fed, StopsIn, EndTells}
-use Rattle.jser_reader.specs.Answers.{IfRefused, FrontRefused, IsRightOf, PassesWith, Tells}
+use Rattle.jser_check.specs.Admitted.{AreAdmitted, gate_of_filter}
+use Rattle.jser_reader.specs.Answers.{FrontRefused, IsRightOf, PassesWith}
 use Rattle.jser_check.specs.Answers.{Reports, Refuses}
-use Rattle.jser_reader.proofs.RefusalLemmas.{refused_whole, front_refused}
+use Rattle.jser_reader.proofs.RefusalLemmas.{refused_whole}
 use Rattle.jser_check.proofs.SpelledBytes.{stream_bytes}
 use Rattle.jser_check.proofs.AdmittedLemmas.{admits_exactly}
-
--- ---- under any gate
-
-pub stop_tells : {G : Type 0} (told : G → Gate) (gate : G) (old new : Reading G) (bytes : List ℕ) (why : Stop) → old.gate ≡ gate
-    → StandsFor (told gate) [] old.machine old.tally → StopsIn told old new bytes why → Tells (told gate) bytes (Err why)
-unfolding StopsIn
-stop_tells told gate old new bytes (stop.Refused refusal) same st s =
-    let x = s [] (subst (λ g. StandsFor (told g) [] old.machine old.tally) (sym same) st) in
-    inl (front_refused (told gate) (take x.used bytes) (drop x.used bytes) bytes refusal (sym (take-append-drop x.used bytes))
-    (subst (λ g. AreRefused (told g) (take x.used bytes) refusal) same x.refused))
-stop_tells told gate old new bytes stop.OutOfMemory same st s = tt
-stop_tells told gate old new bytes stop.Spent same st s = s [] (subst (λ g. StandsFor (told g) [] old.machine old.tally) (sym same) st)
-
-pub finish_tells : {G : Type 0} (told : G → Gate) (gate : G) (old mid new : Reading G) (bytes : List ℕ) (result : Result Totals Stop) → old.gate ≡ gate
-    → StandsFor (told gate) [] old.machine old.tally → Fed told old mid bytes [] → EndTells (told mid.gate) result mid.machine mid.tally new.machine
-    → Tells (told gate) bytes result
-unfolding EndTells
-finish_tells told gate old mid new bytes result same st f t =
-    let whole : bytes ≡ f.front = f.split ∙ append-nil f.front in
-    let stands : StandsFor (told old.gate) f.front mid.machine mid.tally = f.stands [] (subst (λ g. StandsFor (told g) [] old.machine old.tally) (sym same) st) in
-    subst (λ g. Tells (told g) bytes result) (f.same ∙ same)
-    (t bytes (subst (λ xs. StandsFor (told mid.gate) xs mid.machine mid.tally) (sym whole)
-    (subst (λ g. StandsFor (told g) f.front mid.machine mid.tally) (sym f.same) stands))).tells
-
--- ---- under the gate of a filter
-
-pub told_of_filter : (gate : FilterWith) (filter : FilterView) (options : Options) (bytes : List ℕ) (result : Result Totals Stop) → gate.filter ≡ filter
-    → gate.options ≡ options → Tells (gate_of_filter gate.filter gate.options) bytes result → Tells (gate_of_filter filter options) bytes result
-told_of_filter gate filter options bytes result ef eo t =
-    subst (λ o. Tells (gate_of_filter filter o) bytes result) eo (subst (λ f. Tells (gate_of_filter f gate.options) bytes result) ef t)
 
 pub reports : (filter : FilterView) (options : Options) (bytes : List ℕ) (totals : Totals) → PassesWith (gate_of_filter filter options) bytes totals
     → Reports filter options bytes totals
@@ -101,15 +61,3 @@ pub right_refuses : (filter : FilterView) (options : Options) (bytes : List ℕ)
     → Refuses filter options bytes refusal
 right_refuses filter options bytes refusal (inl f) = front_refuses filter options bytes refusal f
 right_refuses filter options bytes refusal (inr t) = cut_refuses filter options bytes refusal t
-
-pub tells_accepted : (filter : FilterView) (options : Options) (bytes : List ℕ) (result : Result Totals Stop) → Tells (gate_of_filter filter options) bytes result
-    → IfOk result (Reports filter options bytes)
-tells_accepted filter options bytes (Ok totals) t = reports filter options bytes totals t
-tells_accepted filter options bytes (Err why) t = tt
-
-pub tells_refused : (filter : FilterView) (options : Options) (bytes : List ℕ) (result : Result Totals Stop) → Tells (gate_of_filter filter options) bytes result
-    → IfErr result (IfRefused (Refuses filter options bytes))
-tells_refused filter options bytes (Ok totals) t = tt
-tells_refused filter options bytes (Err (stop.Refused refusal)) t = right_refuses filter options bytes refusal t
-tells_refused filter options bytes (Err stop.OutOfMemory) t = tt
-tells_refused filter options bytes (Err stop.Spent) t = t

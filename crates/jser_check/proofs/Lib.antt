@@ -1,8 +1,14 @@
 pub mod SpelledBytes
 pub mod AdmittedLemmas
+pub mod Feeding
 pub mod FeedLemmas
 pub mod AnswerLemmas
-pub mod SourceLemmas
 pub mod ReaderLemmas
+pub mod Readers
 pub mod CheckLemmas
 pub mod FrontLemmas
+pub mod PieceLemmas
+pub mod WholeLemmas
+pub mod SourceLemmas
+pub mod JudgedLemmas
+pub mod FaceLemmas

@@ -1,6 +1,5 @@
 -- What a list spells are bytes.
-use Rattle.std.proofs.Common.{◌≡◌, ℕ, zero, suc, ◌+◌, ◌<◌, ◌&&◌, Bool, true, false, nat_lt, get_or, List, [], ◌∷◌, ◌++◌, length, All, refl, sym, ◌∙◌, ap, subst, arith, IsTrue}
-use Rattle.std.specs.List.{list_all}
+use Rattle.std.proofs.Common.{ℕ, zero, suc, ◌+◌, ◌<◌, Bool, true, false, List, [], ◌∷◌, ◌++◌, length, All, refl, sym, ◌∙◌, subst, arith, IsTrue}
 use Rattle.std.proofs.lemmas.Bool.Decides.{nat_tests}
 use Rattle.jser_prim.specs.Bytes.{big_bytes}
 use Rattle.jser_prim.specs.ModifiedUtf8.{modified_utf8, IsUnits}
@@ -9,7 +8,7 @@ use Rattle.jser_prim.proofs.TextLemmas.{modified_utf8-fits}
 use Rattle.jser_table.specs.Codes.{size_of}
 use Rattle.jser_grammar.specs.Trees.{PrimTree, ContentTrees}
 use Rattle.jser_grammar.specs.Parts.{IsBytes}
-use Rattle.jser_grammar.specs.Spelling.{utf, long_utf, prims_spelling}
+use Rattle.jser_grammar.specs.Spelling.{prims_spelling}
 use Rattle.jser_grammar.specs.Streams.{IsStreamOf}
 use Rattle.jser_reading.specs.Moments.{Moment}
 use Rattle.jser_reading.specs.Labels.{Tag, null_tag, reference_tag, class_desc_tag, object_tag, string_tag, array_tag, class_tag, long_string_tag, proxy_desc_tag, enum_tag, StreamToken, header_token, tag_token, block_tag_token, end_tag_token, reset_tag_token, handle_token, suid_token, flags_token, field_count_token, interface_count_token, array_length_token, code_token, text_token, block_length_token, prims_token, bytes_token, Piece, piece, Position, nowhere, header_at, top_at, annotation_at, value_at, text_place_at, class_place_at, superclass_place_at, back_handle_at, text_handle_at, class_handle_at, superclass_handle_at, string_at, class_name_at, field_name_at, interface_name_at, suid_at, field_count_at, interface_count_at, array_length_at, flags_at, type_code_at, block_length_at, raw_at, bytes_at}

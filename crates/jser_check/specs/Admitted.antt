@@ -1,5 +1,5 @@
 -- What a filter admits: which streams, in words of the tree; and the gate that lets pass exactly these.
-use Rattle.std.specs.Prelude.{ℕ, ◌≡◌, ◌≤◌, ◌-◌, ◌^◌, min, Bool, true, false, List, length, Option, Some, None}
+use Rattle.std.specs.Prelude.{ℕ, ◌≡◌, ◌≤◌, min, Bool, true, false, List, length, Option, Some, None}
 use Rattle.jser_filter.specs.declared.Verdict.{Verdict}
 use Rattle.jser_filter.specs.declared.Verdict.TheVariants as verdict
 use Rattle.jser_filter.specs.Filters.{FilterView, limits_of, verdict_of}

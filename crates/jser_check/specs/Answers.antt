@@ -1,18 +1,13 @@
 -- What the answers of a check mean.
-use Rattle.std.specs.Prelude.{◌≡◌, ◌≢◌, ◌⊎◌, ℕ, ◌≤◌, List, ◌++◌, length, take, Result, Ok, Err}
-use Rattle.jser_grammar.specs.Parts.{IsBytes}
+use Rattle.std.specs.Prelude.{◌≡◌, ◌≢◌, ℕ, ◌≤◌, List, ◌++◌, length, take}
 use Rattle.jser_grammar.specs.Trees.{ContentTrees}
 use Rattle.jser_verdict.specs.Reasons.{truncated}
 use Rattle.jser_verdict.specs.Reasons.{Reason as ToldReason}
 use Rattle.jser_verdict.specs.Gates.{Gate}
-use Rattle.jser_verdict.specs.Passing.{Passes}
-use Rattle.jser_verdict.specs.FirstFault.{IsFault, IsFirstFault}
+use Rattle.jser_verdict.specs.FirstFault.{IsFault}
 use Rattle.jser_reader.specs.declared.Reason.TheVariants as reason
 use Rattle.jser_reader.specs.declared.Refusal.{Refusal}
-use Rattle.jser_reader.specs.declared.Stop.{Stop}
-use Rattle.jser_reader.specs.declared.Stop.TheVariants as stop
 use Rattle.jser_reader.specs.declared.Totals.{Totals}
-use Rattle.jser_reader.specs.Reasons.{named}
 use Rattle.jser_reader.specs.Tallies.{AreTotals}
 use Rattle.jser_reader.specs.Streams.{AreRefused, AreTruncated}
 pub use Rattle.jser_reader.specs.Answers.{CarriesFirst, IfRefused}

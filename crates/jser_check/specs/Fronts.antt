@@ -3,12 +3,11 @@ use Rattle.std.specs.Prelude.{◌≡◌, ◌⊎◌, ℕ, ◌<◌, ◌≤◌, Lis
 use Rattle.jser_grammar.specs.Parts.{IsBytes}
 use Rattle.jser_reader.specs.declared.Stop.{Stop}
 use Rattle.jser_reader.specs.declared.Stop.TheVariants as stop
-use Rattle.jser_reader.specs.declared.Totals.{Totals}
 use Rattle.jser_reader.specs.Tallies.{whole_of}
 use Rattle.jser_filter.specs.Filters.{FilterView}
 use Rattle.jser_check.specs.declared.gate.Options.{Options}
-use Rattle.jser_check.specs.Admitted.{AreAdmitted}
-use Rattle.jser_check.specs.Checks.{Checking}
+use Rattle.jser_check.specs.Admitted.{AreAdmitted, FilterWith}
+use Rattle.jser_reader.specs.ReaderStates.{Reading}
 
 -- The filter admits the first n bytes, or n is 0; and it admits no longer front of them. The header alone is a stream of no
 -- contents.
@@ -21,9 +20,9 @@ pub record IsFront (filter : FilterView) (options : Options) (bytes : List ℕ) 
 abbrev pub StaysFront : FilterView → Options → List ℕ → ℕ → Type 0
 StaysFront filter options bytes n = (after : List ℕ) → IsBytes after → IsFront filter options (bytes ++ after) n
 
--- how many of the bytes that it took a check says are whole contents
-abbrev pub whole_in : Checking → ℕ
-whole_in check = whole_of check.machine check.tally
+-- how many of the bytes that it took a reader says are whole contents
+abbrev pub whole_in : Reading FilterWith → ℕ
+whole_in reader = whole_of reader.machine reader.tally
 
 -- what holds where a check was decided: memory did not run out
 abbrev pub IfDecided : {X : Type 0} → Type 0 → Result X Stop → Type 0

@@ -1,9 +1,14 @@
 pub mod Admitted
 pub mod Caps
 pub mod Answers
-pub mod Feeding
 pub mod Checks
+pub mod Passing
+pub mod Joins
 pub mod Fronts
+pub mod Pieces
+pub mod Faces
 pub mod Sources
 pub mod SourceAnswers
+pub mod Reads
 pub mod FaultTexts
+pub mod AnywhereTexts

@@ -1,15 +1,13 @@
 -- What the answers of the check of a source mean. `had` are the bytes that were to come from it before, if it tells
 -- them, `has` those after.
-use Rattle.std.specs.Prelude.{◌≡◌, ◌≢◌, ℕ, ◌+◌, List, Option, Result, Ok, Err, IfSome}
+use Rattle.std.specs.Prelude.{◌≢◌, ℕ, ◌+◌, List, Option, Result, Ok, Err}
 use Rattle.std.specs.Io.KnownBytes.{Consumes}
 use Rattle.jser_verdict.specs.Gates.{Gate}
 use Rattle.jser_reader.specs.declared.Reason.TheVariants as reason
 use Rattle.jser_reader.specs.declared.Refusal.{Refusal}
 use Rattle.jser_reader.specs.declared.Stop.TheVariants as stop
-use Rattle.jser_reader.specs.declared.Totals.{Totals}
 use Rattle.jser_check.specs.declared.answer.CheckFault.{CheckFault}
 use Rattle.jser_check.specs.declared.answer.CheckFault.TheVariants as fault
-use Rattle.jser_reader.specs.Answers.{IsRightOf, PassesWith}
 use Rattle.jser_check.specs.Answers.{IfRefused, DecideNothing}
 use Rattle.jser_check.specs.Sources.{read_bytes, TakesAtMost}
 
@@ -32,11 +30,3 @@ TakesFew had has (Err (fault.Stop (stop.Refused refusal))) =
 TakesFew had has (Err (fault.Stop stop.OutOfMemory)) = Unit {0}
 TakesFew had has (Err (fault.Stop stop.Spent)) = Unit {0}
 TakesFew had has (Err fault.ReadFault) = Unit {0}
-
--- what a check answers of a source under a gate
-abbrev pub SourceTells : Gate → (had has : Option (List ℕ)) → Result Totals CheckFault → Type 0
-SourceTells gate had has (Ok totals) = IfSome had (λ bytes. PassesWith gate bytes totals)
-SourceTells gate had has (Err (fault.Stop (stop.Refused refusal))) = IfSome had (λ bytes. IsRightOf gate bytes refusal)
-SourceTells gate had has (Err (fault.Stop stop.OutOfMemory)) = Unit {0}
-SourceTells gate had has (Err (fault.Stop stop.Spent)) = ⊥
-SourceTells gate had has (Err fault.ReadFault) = Undecided gate had has

@@ -1,5 +1,11 @@
 //! Why the check of a source stopped.
-use jser_reader::Stop;
+ghost use Rattle.std.specs.Prelude.{◌≡◌, false, IfErr};
+ghost use Rattle.jser_check.specs.Pieces.{Keeps};
+ghost use Rattle.jser_check.specs.Reads.{NamesOnly};
+ghost use Rattle.jser_check.specs.Faces.{as_plain, as_stop};
+
+use crate::fault::AnywhereFault;
+use jser_reader::{Stop, Totals};
 use std::error::Error;
 use std::fmt;
 
@@ -36,5 +42,31 @@ impl From<Stop> for CheckFault {
 
     fn from(stop: Stop) -> CheckFault {
         CheckFault::Stop(stop)
+    }
+}
+
+/// An answer that tells of no name, and of no read.
+pub(crate) fn stop_of<T>(answer: Result<T, AnywhereFault>) -> Result<T, Stop>
+    requires { IfErr answer (Keeps false) }
+    ensures { as_stop result ≡ answer }
+{
+    match answer {
+        Ok(value) => Ok(value),
+        Err(AnywhereFault::Stop(stop)) => Err(stop),
+        Err(AnywhereFault::ReadFault) => unreachable!(),
+        Err(AnywhereFault::Hidden { .. }) => unreachable!(),
+    }
+}
+
+/// An answer that tells of no name.
+pub(crate) fn plain_of(answer: Result<Totals, AnywhereFault>) -> Result<Totals, CheckFault>
+    requires { IfErr answer (NamesOnly false) }
+    ensures { as_plain result ≡ answer }
+{
+    match answer {
+        Ok(totals) => Ok(totals),
+        Err(AnywhereFault::Stop(stop)) => Err(CheckFault::Stop(stop)),
+        Err(AnywhereFault::ReadFault) => Err(CheckFault::ReadFault),
+        Err(AnywhereFault::Hidden { .. }) => unreachable!(),
     }
 }

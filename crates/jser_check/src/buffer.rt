@@ -15,7 +15,7 @@ const BUFFER_LEN: usize = 57_344;
 /// # Errors
 ///
 /// Where memory runs out.
-pub fn first_buffer(alloc: Global) -> Result<Vec<u8>, AllocError>
+pub(crate) fn first_buffer(alloc: Global) -> Result<Vec<u8>, AllocError>
     ensures { IfOk result (λ buffer. IsRoom (vec_len buffer)) }
 {
     vec![in alloc; 0u8; FIRST_LEN]
@@ -23,7 +23,7 @@ pub fn first_buffer(alloc: Global) -> Result<Vec<u8>, AllocError>
 
 /// The buffer for the read after one of `count` bytes: one of 57,344 bytes if these filled the first buffer and memory allows,
 /// else the same buffer.
-pub fn next_buffer(alloc: Global, buffer: Vec<u8>, count: usize) -> Vec<u8>
+pub(crate) fn next_buffer(alloc: Global, buffer: Vec<u8>, count: usize) -> Vec<u8>
     requires { IsRoom (vec_len buffer) }
     ensures { IsRoom (vec_len result) }
 {

@@ -1,17 +1,14 @@
-//! The check of a slice: the check in pieces, of one piece.
-ghost use Rattle.std.specs.Prelude.{[], IfOk, IfErr};
+//! The check of a slice: a face of the one check, which takes it in one piece.
+ghost use Rattle.std.specs.Prelude.{IfOk, IfErr};
 ghost use Rattle.jser_check.specs.Admitted.{gate_of_filter};
-ghost use Rattle.jser_reader.specs.Answers.{Tells};
-ghost use Rattle.jser_reader.specs.ReaderStates.{StandsFor};
-ghost use Rattle.jser_reader.specs.Tallies.{whole_of};
-ghost use Rattle.jser_reader.specs.WholeContents.{IsWhole};
 ghost use Rattle.jser_check.specs.Answers.{IfRefused, Reports, Refuses, CarriesFirst};
 ghost use Rattle.jser_check.specs.Fronts.{IfDecided, IsFront};
 
+use crate::answer::stop_of;
 use crate::check::Check;
-use crate::gate::{FilterGate, Options};
+use crate::gate::{HeldGate, Options};
 use jser_filter::Filter;
-use jser_reader::{Gate, Stop, Totals};
+use jser_reader::{Stop, Totals};
 use std::alloc::Global;
 
 /// Checks whether bytes are one stream that the filter admits, and returns its counts.
@@ -33,7 +30,7 @@ pub fn check_bytes(
     ensures refused { IfErr result (IfRefused (Refuses filter.now options bytes.now)) }
     ensures first { IfErr result (IfRefused (CarriesFirst (gate_of_filter filter.now options) bytes.now)) }
 {
-    check_under(alloc, bytes, FilterGate::new(filter, options)).answer
+    judge_bytes(alloc, bytes, filter, options).answer
 }
 
 /// What a check of bytes answers, and how many of them are whole contents.
@@ -54,30 +51,10 @@ pub fn judge_bytes(alloc: Global, bytes: &[u8], filter: &Filter, options: Option
     ensures first { IfErr result.answer (IfRefused (CarriesFirst (gate_of_filter filter.now options) bytes.now)) }
     ensures whole { IfDecided (IsFront filter.now options bytes.now result.whole) result.answer }
 {
-    check_under(alloc, bytes, FilterGate::new(filter, options))
-}
-
-/// Checks bytes under any gate.
-fn check_under<G: Gate + Drop>(alloc: Global, bytes: &[u8], gate: G) -> Judged
-    ensures tells { Tells (G.told gate) bytes.now result.answer }
-    ensures whole { IfDecided (IsWhole (G.told gate) bytes.now result.whole) result.answer }
-{
-    let mut check = Check::new(alloc, gate);
-    let answer = answer_to(&mut check, bytes);
+    let mut check = Check::plain(alloc, HeldGate::new(filter, options));
+    let answer = stop_of(check.answer(bytes));
     Judged {
         answer,
         whole: check.whole(),
-    }
-}
-
-/// What a check that has taken nothing answers to all bytes.
-fn answer_to<G: Gate>(check: &mut Check<G>, bytes: &[u8]) -> Result<Totals, Stop>
-    requires { StandsFor (G.told check.old.gate) [] check.old.machine check.old.tally }
-    ensures tells { Tells (G.told check.old.gate) bytes.now result }
-    ensures whole { IfDecided (IsWhole (G.told check.old.gate) bytes.now (whole_of check.new.machine check.new.tally)) result }
-{
-    match check.feed(bytes) {
-        Ok(()) => check.finish(),
-        Err(stop) => Err(stop),
     }
 }

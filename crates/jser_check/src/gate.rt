@@ -6,7 +6,7 @@ ghost use Rattle.jser_verdict.specs.Passing.{Passes};
 ghost use Rattle.jser_check.specs.Admitted.{lesser, answer_at, gate_of_filter, IsAdmitted};
 
 use crate::holds::Holds;
-use jser_filter::Verdict;
+use jser_filter::{Filter, Verdict};
 use jser_grammar::caps::{MOST_ARRAY, MOST_BYTES, MOST_DEPTH, MOST_HANDLES, MOST_REFS};
 use jser_reader::{Answer, Gate, Limits};
 use std::marker::Model;
@@ -23,12 +23,15 @@ pub struct Options {
 /// Each limit is the lesser of the filter's and the greatest one. A name that the filter allows passes, and so does
 /// one that names no class; one that no pattern matches passes unless the options are strict.
 #[derive(Debug, Drop)]
-pub struct FilterGate<F: Holds> {
+pub struct HeldGate<F: Holds> {
     holder: F,
     options: Options,
 }
 
-impl<F: Holds> Model for FilterGate<F> {
+/// The gate of a filter that is kept elsewhere.
+pub type FilterGate<'f> = HeldGate<&'f Filter>;
+
+impl<F: Holds> Model for HeldGate<F> {
     ghost use Rattle.jser_check.specs.Admitted.{FilterWith};
 
     ghost Value = { FilterWith };
@@ -36,15 +39,15 @@ impl<F: Holds> Model for FilterGate<F> {
     ghost view = { λ a. record { filter = F.held a.holder; options = a.options } };
 }
 
-impl<F: Holds> FilterGate<F> {
+impl<F: Holds> HeldGate<F> {
     /// The gate of the filter that this holds: of `&filter`, say.
-    pub fn new(holder: F, options: Options) -> FilterGate<F>
+    pub fn new(holder: F, options: Options) -> HeldGate<F>
         ensures filter { result.filter ≡ F.held holder }
         ensures options { result.options ≡ options }
         ensures exact { (bytes : List ℕ) (list : ContentTrees) → IsAdmitted (F.held holder) options bytes list
             ↔ Passes (gate_of_filter (F.held holder) options) bytes list }
     {
-        FilterGate { holder, options }
+        HeldGate { holder, options }
     }
 
     /// What holds the filter.
@@ -62,7 +65,7 @@ impl<F: Holds> FilterGate<F> {
     }
 }
 
-impl<F: Holds> Gate for FilterGate<F> {
+impl<F: Holds> Gate for HeldGate<F> {
     ghost told = { λ gate. gate_of_filter gate.filter gate.options };
 
     #[tactic(auto, using(crate::proofs::AdmittedLemmas::judges))]
@@ -70,6 +73,27 @@ impl<F: Holds> Gate for FilterGate<F> {
         answer_at(self.options, self.holder.filter().judge(name))
     }
 
+    fn max_bytes(&self) -> u64 {
+        self.limits().bytes
+    }
+
+    fn max_depth(&self) -> u32 {
+        self.limits().depth
+    }
+
+    fn max_refs(&self) -> u64 {
+        self.limits().refs
+    }
+
+    fn max_array(&self) -> u32 {
+        self.limits().array
+    }
+
+    fn max_handles(&self) -> u32 {
+        MOST_HANDLES
+    }
+
+    // The text is looked through once for all of them.
     fn limits(&self) -> Limits {
         let limits = self.holder.filter().limits();
         Limits {

@@ -1,22 +1,26 @@
-//! The check of a source: the check in pieces, of what each read gives.
-ghost use Rattle.std.specs.Prelude.{◌≡◌, ◌≢◌, ◌+◌, ◌<◌, ◌≤◌, ℕ, List, [], length, IfOk, IfErr, IfSome};
+//! The check of a source: the one check, of what each read gives.
+ghost use Rattle.std.specs.Prelude.{◌≡◌, ◌≢◌, ◌+◌, ◌<◌, ◌≤◌, false, true, ℕ, List, [], Ok, Err, length, IfOk, IfErr, IfSome};
 ghost use Rattle.std.specs.Io.KnownBytes.{IsAtEnd};
 ghost use Rattle.jser_grammar.specs.Parts.{IsBytes};
-ghost use Rattle.jser_reader.specs.ReaderStates.{StandsFor};
 ghost use Rattle.jser_grammar.specs.Caps.{most_bytes};
 ghost use Rattle.jser_check.specs.Admitted.{gate_of_filter};
 ghost use Rattle.jser_check.specs.Answers.{Reports, Refuses, CarriesFirst};
-ghost use Rattle.jser_check.specs.Sources.{TakesAtMost, ReadTells, ReadsTell, FailsWith};
-ghost use Rattle.jser_check.specs.SourceAnswers.{IfFaultRefused, Undecided, TakesFew, SourceTells};
+ghost use Rattle.jser_check.specs.Passing.{asking};
+ghost use Rattle.jser_check.specs.Sources.{TakesAtMost, FailsWith as FailsPlainly};
+ghost use Rattle.jser_check.specs.SourceAnswers.{IfFaultRefused, TakesFew as TakesFewPlainly, Undecided as UndecidedPlainly};
+ghost use Rattle.jser_check.specs.Pieces.{scans, asked_by, HasTaken};
+ghost use Rattle.jser_check.specs.Reads.{NamesOnly, Answered, FailsWith, SomeTells, SourceTells, TakesFew, Undecided, WholeTells};
 
-use crate::answer::CheckFault;
+use crate::answer::{CheckFault, plain_of};
 use crate::buffer::{first_buffer, next_buffer};
 use crate::check::Check;
-use crate::gate::{FilterGate, Options};
+use crate::fault::AnywhereFault;
+use crate::gate::{HeldGate, Options};
+use crate::holds::Holds;
 use jser_filter::Filter;
 use jser_grammar::caps::MOST_BYTES;
 use jser_prim::Source;
-use jser_reader::{Gate, Stop, Totals};
+use jser_reader::{Stop, Totals};
 use std::alloc::Global;
 
 /// Checks whether the bytes of a source are one stream that the filter admits, and returns its counts.
@@ -28,6 +32,7 @@ use std::alloc::Global;
 ///
 /// `CheckFault::Stop` with the refusal, which is the first fault, or with `OutOfMemory`, never with `Spent`;
 /// `CheckFault::ReadFault` where a read failed, and the bytes before it decide no refusal.
+#[tactic(auto, using(crate::proofs::FaceLemmas::source_accepted, crate::proofs::FaceLemmas::source_refused, crate::proofs::FaceLemmas::source_first, crate::proofs::FaceLemmas::source_undecided, crate::proofs::FaceLemmas::source_fails, crate::proofs::FaceLemmas::source_unspent, crate::proofs::FaceLemmas::source_prompt))]
 pub fn check_reader<R: Source>(
     alloc: Global,
     source: &mut R,
@@ -38,57 +43,80 @@ pub fn check_reader<R: Source>(
     ensures refused { IfErr result (λ fault. IfSome (R.to_come source.old) (λ bytes. IfFaultRefused (Refuses filter.now options bytes) fault)) }
     ensures first { IfErr result (λ fault. IfSome (R.to_come source.old) (λ bytes. IsBytes bytes
         → IfFaultRefused (CarriesFirst (gate_of_filter filter.now options) bytes) fault)) }
-    ensures undecided { result ≡ Err CheckFault.ReadFault → Undecided (gate_of_filter filter.now options) (R.to_come source.old) (R.to_come source.new) }
-    ensures fails { FailsWith result (R.has_failed source.old) (R.has_failed source.new) }
+    ensures undecided { result ≡ Err CheckFault.ReadFault → UndecidedPlainly (gate_of_filter filter.now options) (R.to_come source.old) (R.to_come source.new) }
+    ensures fails { FailsPlainly result (R.has_failed source.old) (R.has_failed source.new) }
     ensures never_spent { result ≢ Err (CheckFault.Stop Stop.Spent) }
     ensures within { TakesAtMost (most_bytes + 1) (R.to_come source.old) (R.to_come source.new) }
-    ensures prompt { TakesFew (R.to_come source.old) (R.to_come source.new) result }
+    ensures prompt { TakesFewPlainly (R.to_come source.old) (R.to_come source.new) result }
     ensures remembers { (all : List ℕ) → R.remembers source.old all → R.remembers source.new all }
 {
-    check_under(alloc, source, FilterGate::new(filter, options))
+    let mut check = Check::plain(alloc, HeldGate::new(filter, options));
+    plain_of(answer_of(alloc, source, &mut check))
 }
 
-/// Checks the bytes of a source under any gate.
-fn check_under<R: Source, G: Gate + Drop>(
+/// Checks whether the bytes of a source are one stream that the filter admits, and whether it admits each class name that
+/// can be read at any place of them; returns the counts.
+///
+/// What it allocates is what `check_reader` does, and some 18 kilobytes for the names that are being read.
+///
+/// # Errors
+///
+/// `AnywhereFault::Stop` with the refusal of the check, or `Hidden` with a name that does not pass: whichever ends first,
+/// and of equal ends the refusal. `Stop` with `OutOfMemory`, never with `Spent`. `ReadFault` where a read failed, and the
+/// bytes before it decide nothing.
+pub fn check_anywhere<R: Source>(
     alloc: Global,
     source: &mut R,
-    gate: G,
-) -> Result<Totals, CheckFault>
-    ensures tells { SourceTells (G.told gate) (R.to_come source.old) (R.to_come source.new) result }
+    filter: &Filter,
+    options: Options,
+) -> Result<Totals, AnywhereFault>
+    ensures tells { SourceTells (asking filter.now options true) (R.to_come source.old) result }
+    ensures undecided { result ≡ Err AnywhereFault.ReadFault → Undecided (asking filter.now options true) (R.to_come source.old) (R.to_come source.new) }
     ensures fails { FailsWith result (R.has_failed source.old) (R.has_failed source.new) }
+    ensures never_spent { result ≢ Err (AnywhereFault.Stop Stop.Spent) }
     ensures within { TakesAtMost (most_bytes + 1) (R.to_come source.old) (R.to_come source.new) }
     ensures prompt { TakesFew (R.to_come source.old) (R.to_come source.new) result }
     ensures remembers { (all : List ℕ) → R.remembers source.old all → R.remembers source.new all }
 {
-    let mut check = Check::new(alloc, gate);
-    match read_whole(alloc, source, &mut check) {
-        Ok(()) => match check.finish() {
-            Ok(totals) => Ok(totals),
-            Err(stop) => Err(CheckFault::Stop(stop)),
-        },
+    let Ok(mut check) = Check::under(alloc, HeldGate::new(filter, options), true) else {
+        return Err(AnywhereFault::Stop(Stop::OutOfMemory));
+    };
+    answer_of(alloc, source, &mut check)
+}
+
+/// The answer of a new check to a source.
+fn answer_of<R: Source, F: Holds>(
+    alloc: Global,
+    source: &mut R,
+    check: &mut Check<F>,
+) -> Result<Totals, AnywhereFault>
+    requires { HasTaken check.old [] }
+    ensures answers { Answered (asked_by check.old) (R.to_come source.old) (R.to_come source.new) result }
+    ensures fails { FailsWith result (R.has_failed source.old) (R.has_failed source.new) }
+    ensures names { IfErr result (NamesOnly (scans check.old.scan)) }
+    ensures remembers { (all : List ℕ) → R.remembers source.old all → R.remembers source.new all }
+{
+    match read_whole(alloc, source, check) {
+        Ok(()) => check.finish(),
         Err(fault) => Err(fault),
     }
 }
 
 /// Reads a source to its end, into the check.
-///
-/// # Errors
-///
-/// `CheckFault::Stop` where the check stopped, or where there was no memory for the bytes of a read;
-/// `CheckFault::ReadFault` where a read failed.
-#[tactic(auto, using(crate::proofs::SourceLemmas::taken_none, crate::proofs::SourceLemmas::taken_more, crate::proofs::SourceLemmas::stopped_after))]
-fn read_whole<R: Source, G: Gate>(
+fn read_whole<R: Source, F: Holds>(
     alloc: Global,
     source: &mut R,
-    check: &mut Check<G>,
-) -> Result<(), CheckFault>
-    requires { StandsFor (G.told check.old.gate) [] check.old.machine check.old.tally }
-    ensures tells { ReadsTell (λ gate. G.told gate) check.old check.new (R.to_come source.old) (R.to_come source.new) result }
+    check: &mut Check<F>,
+) -> Result<(), AnywhereFault>
+    requires { HasTaken check.old [] }
+    ensures tells { WholeTells (asked_by check.old) check.new (R.to_come source.old) (R.to_come source.new) result }
+    ensures asks { asked_by check.new ≡ asked_by check.old }
     ensures fails { FailsWith result (R.has_failed source.old) (R.has_failed source.new) }
+    ensures names { IfErr result (NamesOnly (scans check.old.scan)) }
     ensures remembers { (all : List ℕ) → R.remembers source.old all → R.remembers source.new all }
 {
     let Ok(mut buffer) = first_buffer(alloc) else {
-        return Err(CheckFault::Stop(Stop::OutOfMemory));
+        return Err(AnywhereFault::Stop(Stop::OutOfMemory));
     };
     let mut taken: u64 = 0;
     'reads: loop {
@@ -105,26 +133,29 @@ fn read_whole<R: Source, G: Gate>(
 }
 
 /// One read, whose bytes go to the check; returns how many. None are the end.
-#[tactic(auto, using(crate::proofs::SourceLemmas::read_took, crate::proofs::SourceLemmas::read_stopped, crate::proofs::SourceLemmas::read_failed))]
-fn read_some<R: Source, G: Gate>(
+#[tactic(auto, using(crate::proofs::SourceLemmas::some_came, crate::proofs::SourceLemmas::none_came, crate::proofs::SourceLemmas::some_stops, crate::proofs::SourceLemmas::names_only))]
+fn read_some<R: Source, F: Holds>(
     source: &mut R,
-    check: &mut Check<G>,
+    check: &mut Check<F>,
     buffer: &mut [u8],
-) -> Result<usize, CheckFault>
+) -> Result<usize, AnywhereFault>
     requires { 0 < length buffer.old }
-    ensures tells { ReadTells (λ gate. G.told gate) check.old check.new (R.to_come source.old) (R.to_come source.new) (length buffer.old) result }
+    ensures tells { (taken : List ℕ) → HasTaken check.old taken
+        → SomeTells (asked_by check.old) taken check.new (R.to_come source.old) (R.to_come source.new) (length buffer.old) result }
+    ensures asks { asked_by check.new ≡ asked_by check.old }
     ensures few { IfOk result (λ count. count ≤ length buffer.old) }
     ensures end { result ≡ Ok 0 → IsAtEnd (R.to_come source.new) }
-    ensures fails { FailsWith result (R.has_failed source.old) (R.has_failed source.new) }
+    ensures names { IfErr result (NamesOnly (scans check.old.scan)) }
+    ensures fails { (taken : List ℕ) → HasTaken check.old taken → FailsWith result (R.has_failed source.old) (R.has_failed source.new) }
     ensures remembers { (all : List ℕ) → R.remembers source.old all → R.remembers source.new all }
 {
     let count = match source.take(buffer) {
         Ok(count) => count,
-        Err(_) => return Err(CheckFault::ReadFault),
+        Err(_) => return Err(AnywhereFault::ReadFault),
     };
     let (bytes, _) = buffer.split_at(count);
     match check.feed(bytes) {
         Ok(()) => Ok(count),
-        Err(stop) => Err(CheckFault::Stop(stop)),
+        Err(fault) => Err(fault),
     }
 }

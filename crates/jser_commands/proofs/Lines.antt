@@ -11,8 +11,9 @@ use Rattle.jser_check.specs.declared.Report.{Totals as Report}
 use Rattle.jser_check.specs.Admitted.{gate_of_filter}
 use Rattle.jser_check.specs.Answers.{Reports, Refuses, CarriesFirst}
 use Rattle.jser_reader.specs.declared.Stop.TheVariants as stop
-use Rattle.jser_check_anywhere.specs.declared.AnywhereFault.TheVariants as fault
-use Rattle.jser_check_anywhere.specs.SourceAnswers.{SourceTells}
+use Rattle.jser_check.specs.declared.AnywhereFault.TheVariants as fault
+use Rattle.jser_check.specs.Passing.{asking}
+use Rattle.jser_check.specs.Reads.{SourceTells}
 use Rattle.jser_commands.specs.Lines.{yes_line, no_line, hidden_line, AppendsSome, SaysYes, SaysNo, SaysYesAnywhere, SaysNoAnywhere, KeptOrCut, KeptOrSaidSome}
 
 -- a device that was not used
@@ -63,16 +64,16 @@ no_cut failed old new (Some bytes) text Yes No says (inr some) = inr (some.0, in
 -- ---- of a check with each name that can be read
 
 pub says_yes_anywhere : (filter : FilterView) (options : Options) (told : Option (List ℕ)) (report : Report) (Went : List ℕ → Type 0)
-    → SourceTells filter options told (Ok report) → Went (yes_line report) → IfSome told (λ bytes. SaysYesAnywhere filter options bytes Went)
+    → SourceTells (asking filter options true) told (Ok report) → Went (yes_line report) → IfSome told (λ bytes. SaysYesAnywhere filter options bytes Went)
 says_yes_anywhere filter options None report Went r p = tt
 says_yes_anywhere filter options (Some bytes) report Went r p = record { report = report; reported = r; printed = p }
 
 pub says_no_anywhere : (filter : FilterView) (options : Options) (told : Option (List ℕ)) (refusal : Refusal) (Went : List ℕ → Type 0)
-    → SourceTells filter options told (Err (fault.Stop (stop.Refused refusal))) → Went (no_line refusal) → IfSome told (λ bytes. SaysNoAnywhere filter options bytes Went)
+    → SourceTells (asking filter options true) told (Err (fault.Stop (stop.Refused refusal))) → Went (no_line refusal) → IfSome told (λ bytes. SaysNoAnywhere filter options bytes Went)
 says_no_anywhere filter options None refusal Went r p = tt
 says_no_anywhere filter options (Some bytes) refusal Went r p = inl (record { refusal = refusal; refused = r; printed = p })
 
 pub says_hidden : (filter : FilterView) (options : Options) (told : Option (List ℕ)) (from to : ℕ) (Went : List ℕ → Type 0)
-    → SourceTells filter options told (Err (fault.Hidden from to)) → Went (hidden_line from to) → IfSome told (λ bytes. SaysNoAnywhere filter options bytes Went)
+    → SourceTells (asking filter options true) told (Err (fault.Hidden from to)) → Went (hidden_line from to) → IfSome told (λ bytes. SaysNoAnywhere filter options bytes Went)
 says_hidden filter options None from to Went r p = tt
 says_hidden filter options (Some bytes) from to Went r p = inr (record { from = from; to = to; hidden = r; printed = p })

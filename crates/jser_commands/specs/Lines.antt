@@ -21,8 +21,9 @@ use Rattle.jser_check.specs.declared.Options.{Options}
 use Rattle.jser_check.specs.declared.Report.{Totals as Report}
 use Rattle.jser_check.specs.Admitted.{gate_of_filter}
 use Rattle.jser_check.specs.Answers.{Reports, Refuses, CarriesFirst}
-use Rattle.jser_check_anywhere.specs.Answers.{ReportsAnywhere}
-use Rattle.jser_check_anywhere.specs.SourceAnswers.{RefusedIn, HiddenIn}
+use Rattle.jser_check.specs.Passing.{asking}
+use Rattle.jser_check.specs.Pieces.{ReportsAnywhere}
+use Rattle.jser_check.specs.Reads.{RefusedIn, HiddenIn}
 use Rattle.jser_inputs.specs.declared.InputFault.{InputFault}
 use Rattle.jser_settings.specs.Settings.{Tells, TellsInputFault, TellsNoMemory}
 use Rattle.jser_commands.specs.Hidden.{hidden_in}
@@ -74,13 +75,13 @@ pub record SaysYesAnywhere (filter : FilterView) (options : Options) (bytes : Li
 
 pub record SaysNoOf (filter : FilterView) (options : Options) (bytes : List ℕ) (Went : List ℕ → Type 0) : Type 0 where
   pub refusal : Refusal
-  pub refused : RefusedIn filter options bytes refusal
+  pub refused : RefusedIn (asking filter options true) bytes refusal
   pub printed : Went (no_line refusal)
 
 pub record SaysHidden (filter : FilterView) (options : Options) (bytes : List ℕ) (Went : List ℕ → Type 0) : Type 0 where
   pub from : ℕ
   pub to : ℕ
-  pub hidden : HiddenIn filter options bytes from to
+  pub hidden : HiddenIn (asking filter options true) bytes from to
   pub printed : Went (hidden_line from to)
 
 -- the line of its refusal, or that of a hidden name

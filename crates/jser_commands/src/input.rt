@@ -38,7 +38,7 @@ pub(crate) fn read_stream<'b, R: Source>(
     alloc: Global,
     input: &mut R,
     bytes: &'b mut Vec<u8>,
-) -> Result<Index<'b>, Unread>
+) -> Result<Index<&'b [u8]>, Unread>
     ensures accepted { IfOk result (λ graph. IfSome (R.to_come input.old) (λ bytes. StandsForSome bytes graph)) }
     ensures refused { IfErr result (λ unread. IfSome (R.to_come input.old) (λ bytes. IfUnreadRefused (IsRefused bytes) unread)) }
     ensures unbroken { OnOk result (R.has_failed input.new ≡ R.has_failed input.old) }
@@ -54,7 +54,7 @@ pub(crate) fn read_stream<'b, R: Source>(
 }
 
 /// The stream of these bytes.
-fn stream_of(alloc: Global, bytes: &[u8]) -> Result<Index<'_>, Unread>
+fn stream_of(alloc: Global, bytes: &[u8]) -> Result<Index<&[u8]>, Unread>
     ensures accepted { IfOk result (StandsForSome bytes.now) }
     ensures refused { IfErr result (IfUnreadRefused (IsRefused bytes.now)) }
     ensures read { IfErr result (λ unread. unread ≢ Unread.Failed) }

@@ -1,6 +1,7 @@
 //! What the program does: one job on an opened input, printed to an output; faults go to another one.
 ghost use Rattle.std.specs.Prelude.{◌≡◌, ◌≢◌, ◌⊎◌, IfSome};
 ghost use Rattle.std.specs.Io.KnownBytes.{Appends};
+ghost use Rattle.jser_inputs.specs.declared.fault.InputFault.TheVariants as fault;
 ghost use Rattle.jser_commands.specs.Lines.{SaysYes, SaysNo, SaysYesAnywhere, SaysNoAnywhere, SaysAccepted, SaysRefused, SaysCut, SaysFailed, SaysWhy, KeptOrSaidSome, HasLimit};
 
 use crate::answer::{print_line, text_of_hidden, text_of_refusal, text_of_report};
@@ -8,11 +9,11 @@ use crate::limited::show_limited;
 use crate::list::list;
 use crate::list_anywhere::list_anywhere;
 use crate::show::show;
-use jser_check::{CheckFault, Options, Stop, check_reader};
-use jser_check_anywhere::{AnywhereFault, check_anywhere};
+use crate::telling::{ByInput, ByNone, Telling};
+use jser_check::{AnywhereFault, CheckFault, Options, Stop, check_anywhere, check_reader};
 use jser_filter::Filter;
 use jser_inputs::Input;
-use jser_prim::Sink;
+use jser_prim::{Sink, Source};
 use jser_settings::{ACCEPTED, REFUSED, tell_failure, tell_input_fault};
 use std::alloc::Global;
 
@@ -66,7 +67,27 @@ pub enum Job {
 /// Nothing is printed to `output` before the input was accepted or refused. The input is read in pieces. A check keeps none of
 /// it, a list its names, and the others all of it until it is refused. The other jobs than a check read on then, at most
 /// 2^40 + 1 bytes in all, and keep none.
-pub fn run<R: Input, W: Sink, E: Sink>(
+pub fn run<R: Source, W: Sink, E: Sink>(
+    alloc: Global,
+    job: &Job,
+    input: &mut R,
+    output: &mut W,
+    faults: &mut E,
+) -> u8
+    ensures accepted { result ≡ 0 → IfSome (R.to_come input.old) (λ bytes. SaysAccepted job.now bytes (Appends (W.gone_out output.old) (W.gone_out output.new))) }
+    ensures refused { result ≡ 1 → IfSome (R.to_come input.old) (λ bytes. SaysRefused job.now bytes (Appends (W.gone_out output.old) (W.gone_out output.new))) }
+    ensures cut { result ≡ 4 → IfSome (R.to_come input.old) (λ bytes. SaysCut job.now bytes (Appends (W.gone_out output.old) (W.gone_out output.new))) }
+    ensures failed { result ≡ 3 → SaysFailed job.now (R.to_come input.old) (W.has_failed output.new) (W.gone_out output.old) (W.gone_out output.new) }
+    ensures why { result ≡ 3 → SaysWhy fault.Failed (R.has_failed input.old) (R.has_failed input.new) (W.has_failed output.old) (W.has_failed output.new) (E.has_failed faults.new) (E.gone_out faults.old) (E.gone_out faults.new) }
+    ensures unbroken { result ≢ 3 → (R.has_failed input.new ≡ R.has_failed input.old) × (W.has_failed output.new ≡ W.has_failed output.old) }
+    ensures quiet { result ≢ 3 → faults.new ≡ faults.old }
+    ensures status { (result ≡ 0) ⊎ ((result ≡ 1) ⊎ ((result ≡ 3) ⊎ ((result ≡ 4) × HasLimit job.now))) }
+{
+    run_by::<R, ByNone, W, E>(alloc, job, input, output, faults)
+}
+
+/// Does the job on an input, which says why it failed where it did.
+pub fn run_input<R: Input, W: Sink, E: Sink>(
     alloc: Global,
     job: &Job,
     input: &mut R,
@@ -82,27 +103,49 @@ pub fn run<R: Input, W: Sink, E: Sink>(
     ensures quiet { result ≢ 3 → faults.new ≡ faults.old }
     ensures status { (result ≡ 0) ⊎ ((result ≡ 1) ⊎ ((result ≡ 3) ⊎ ((result ≡ 4) × HasLimit job.now))) }
 {
+    run_by::<R, ByInput, W, E>(alloc, job, input, output, faults)
+}
+
+/// Does the job; of a source that failed this says why.
+fn run_by<R: Source, Y: Telling<R>, W: Sink, E: Sink>(
+    alloc: Global,
+    job: &Job,
+    input: &mut R,
+    output: &mut W,
+    faults: &mut E,
+) -> u8
+    ensures accepted { result ≡ 0 → IfSome (R.to_come input.old) (λ bytes. SaysAccepted job.now bytes (Appends (W.gone_out output.old) (W.gone_out output.new))) }
+    ensures refused { result ≡ 1 → IfSome (R.to_come input.old) (λ bytes. SaysRefused job.now bytes (Appends (W.gone_out output.old) (W.gone_out output.new))) }
+    ensures cut { result ≡ 4 → IfSome (R.to_come input.old) (λ bytes. SaysCut job.now bytes (Appends (W.gone_out output.old) (W.gone_out output.new))) }
+    ensures failed { result ≡ 3 → SaysFailed job.now (R.to_come input.old) (W.has_failed output.new) (W.gone_out output.old) (W.gone_out output.new) }
+    ensures why { result ≡ 3 → SaysWhy (Y.why_failed input.new) (R.has_failed input.old) (R.has_failed input.new) (W.has_failed output.old) (W.has_failed output.new) (E.has_failed faults.new) (E.gone_out faults.old) (E.gone_out faults.new) }
+    ensures unbroken { result ≢ 3 → (R.has_failed input.new ≡ R.has_failed input.old) × (W.has_failed output.new ≡ W.has_failed output.old) }
+    ensures quiet { result ≢ 3 → faults.new ≡ faults.old }
+    ensures status { (result ≡ 0) ⊎ ((result ≡ 1) ⊎ ((result ≡ 3) ⊎ ((result ≡ 4) × HasLimit job.now))) }
+{
     match job {
         Job::Check { filter, strict } => {
             let options = Options { strict: *strict };
-            check(alloc, filter, options, input, output, faults)
+            check::<R, Y, W, E>(alloc, filter, options, input, output, faults)
         }
         Job::CheckAnywhere { filter, strict } => {
             let options = Options { strict: *strict };
-            check_names(alloc, filter, options, input, output, faults)
+            check_names::<R, Y, W, E>(alloc, filter, options, input, output, faults)
         }
-        Job::Show { values } => show(alloc, *values, input, output, faults),
+        Job::Show { values } => show::<R, Y, W, E>(alloc, *values, input, output, faults),
         Job::ShowLimited { values, limit } => {
-            show_limited(alloc, *values, *limit, input, output, faults)
+            show_limited::<R, Y, W, E>(alloc, *values, *limit, input, output, faults)
         }
-        Job::List { filter } => list(alloc, filter, input, output, faults),
-        Job::ListAnywhere { filter } => list_anywhere(alloc, filter, input, output, faults),
+        Job::List { filter } => list::<R, Y, W, E>(alloc, filter, input, output, faults),
+        Job::ListAnywhere { filter } => list_anywhere::<R, Y, W, E>(
+            alloc, filter, input, output, faults,
+        ),
     }
 }
 
 /// Checks the input, and prints the line of the answer.
 #[tactic(auto, using(crate::proofs::Lines::says_yes, crate::proofs::Lines::says_no, crate::proofs::Lines::kept))]
-fn check<R: Input, W: Sink, E: Sink>(
+fn check<R: Source, Y: Telling<R>, W: Sink, E: Sink>(
     alloc: Global,
     filter: &Filter,
     options: Options,
@@ -114,7 +157,7 @@ fn check<R: Input, W: Sink, E: Sink>(
     ensures refused { result ≡ 1 → IfSome (R.to_come input.old) (λ bytes. SaysNo filter.now options bytes (Appends (W.gone_out output.old) (W.gone_out output.new))) }
     ensures failed { result ≡ 3 → KeptOrSaidSome (W.has_failed output.new) (W.gone_out output.old) (W.gone_out output.new) (R.to_come input.old) (SaysYes filter.now options) (SaysNo filter.now options) }
     ensures status { (result ≡ 0) ⊎ ((result ≡ 1) ⊎ (result ≡ 3)) }
-    ensures why { result ≡ 3 → SaysWhy (R.why_failed input.new) (R.has_failed input.old) (R.has_failed input.new) (W.has_failed output.old) (W.has_failed output.new) (E.has_failed faults.new) (E.gone_out faults.old) (E.gone_out faults.new) }
+    ensures why { result ≡ 3 → SaysWhy (Y.why_failed input.new) (R.has_failed input.old) (R.has_failed input.new) (W.has_failed output.old) (W.has_failed output.new) (E.has_failed faults.new) (E.gone_out faults.old) (E.gone_out faults.new) }
     ensures unbroken { result ≢ 3 → (R.has_failed input.new ≡ R.has_failed input.old) × (W.has_failed output.new ≡ W.has_failed output.old) }
     ensures quiet { result ≢ 3 → faults.new ≡ faults.old }
 {
@@ -124,13 +167,13 @@ fn check<R: Input, W: Sink, E: Sink>(
             print_line(output, faults, text_of_refusal(alloc, refusal), REFUSED)
         }
         Err(CheckFault::Stop(_)) => tell_failure(faults, "out of memory\n"),
-        Err(CheckFault::ReadFault) => tell_input_fault(alloc, input.fault(), faults),
+        Err(CheckFault::ReadFault) => tell_input_fault(alloc, Y::fault(input), faults),
     }
 }
 
 /// Checks the input, with each class name that can be read at any place, and prints the line of the answer.
 #[tactic(auto, using(crate::proofs::Lines::says_yes_anywhere, crate::proofs::Lines::says_no_anywhere, crate::proofs::Lines::says_hidden, crate::proofs::Lines::kept))]
-fn check_names<R: Input, W: Sink, E: Sink>(
+fn check_names<R: Source, Y: Telling<R>, W: Sink, E: Sink>(
     alloc: Global,
     filter: &Filter,
     options: Options,
@@ -142,7 +185,7 @@ fn check_names<R: Input, W: Sink, E: Sink>(
     ensures refused { result ≡ 1 → IfSome (R.to_come input.old) (λ bytes. SaysNoAnywhere filter.now options bytes (Appends (W.gone_out output.old) (W.gone_out output.new))) }
     ensures failed { result ≡ 3 → KeptOrSaidSome (W.has_failed output.new) (W.gone_out output.old) (W.gone_out output.new) (R.to_come input.old) (SaysYesAnywhere filter.now options) (SaysNoAnywhere filter.now options) }
     ensures status { (result ≡ 0) ⊎ ((result ≡ 1) ⊎ (result ≡ 3)) }
-    ensures why { result ≡ 3 → SaysWhy (R.why_failed input.new) (R.has_failed input.old) (R.has_failed input.new) (W.has_failed output.old) (W.has_failed output.new) (E.has_failed faults.new) (E.gone_out faults.old) (E.gone_out faults.new) }
+    ensures why { result ≡ 3 → SaysWhy (Y.why_failed input.new) (R.has_failed input.old) (R.has_failed input.new) (W.has_failed output.old) (W.has_failed output.new) (E.has_failed faults.new) (E.gone_out faults.old) (E.gone_out faults.new) }
     ensures unbroken { result ≢ 3 → (R.has_failed input.new ≡ R.has_failed input.old) × (W.has_failed output.new ≡ W.has_failed output.old) }
     ensures quiet { result ≢ 3 → faults.new ≡ faults.old }
 {
@@ -160,6 +203,6 @@ fn check_names<R: Input, W: Sink, E: Sink>(
             )
         }
         Err(AnywhereFault::Stop(_)) => tell_failure(faults, "out of memory\n"),
-        Err(AnywhereFault::ReadFault) => tell_input_fault(alloc, input.fault(), faults),
+        Err(AnywhereFault::ReadFault) => tell_input_fault(alloc, Y::fault(input), faults),
     }
 }

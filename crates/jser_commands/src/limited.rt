@@ -7,15 +7,15 @@ ghost use Rattle.jser_commands.specs.Lines.{CutText, SaysWithin, SaysCutShown, S
 use crate::answer::print_bytes;
 use crate::input::{print_unread, read_stream};
 use crate::start::{Start, start_of_show};
+use crate::telling::Telling;
 use jser_index::Index;
-use jser_inputs::Input;
-use jser_prim::{Sink, whole_lines};
+use jser_prim::{Sink, Source, whole_lines};
 use jser_settings::{ACCEPTED, CUT, tell_failure};
 use std::alloc::{AllocError, Global};
 
 /// Reads the stream of the input, and prints its text, or as many lines of it as the limit allows.
 #[tactic(auto, using(crate::proofs::LimitLemmas::says_within, crate::proofs::LimitLemmas::says_cut, crate::proofs::LimitLemmas::limited_failed, crate::proofs::InputLemmas::says_refusal, crate::proofs::InputLemmas::refusal_cut, crate::proofs::InputLemmas::unbroken_refusal, crate::proofs::InputLemmas::why_unread))]
-pub(crate) fn show_limited<R: Input, W: Sink, E: Sink>(
+pub(crate) fn show_limited<R: Source, Y: Telling<R>, W: Sink, E: Sink>(
     alloc: Global,
     values: bool,
     limit: u64,
@@ -28,14 +28,14 @@ pub(crate) fn show_limited<R: Input, W: Sink, E: Sink>(
     ensures refused { result ≡ 1 → IfSome (R.to_come input.old) (λ bytes. SaysRefusal bytes (Appends (W.gone_out output.old) (W.gone_out output.new))) }
     ensures failed { result ≡ 3 → KeptOrSaidSome (W.has_failed output.new) (W.gone_out output.old) (W.gone_out output.new) (R.to_come input.old) (SaysLimited values limit) SaysRefusal }
     ensures status { (result ≡ 0) ⊎ ((result ≡ 1) ⊎ ((result ≡ 3) ⊎ (result ≡ 4))) }
-    ensures why { result ≡ 3 → SaysWhy (R.why_failed input.new) (R.has_failed input.old) (R.has_failed input.new) (W.has_failed output.old) (W.has_failed output.new) (E.has_failed faults.new) (E.gone_out faults.old) (E.gone_out faults.new) }
+    ensures why { result ≡ 3 → SaysWhy (Y.why_failed input.new) (R.has_failed input.old) (R.has_failed input.new) (W.has_failed output.old) (W.has_failed output.new) (E.has_failed faults.new) (E.gone_out faults.old) (E.gone_out faults.new) }
     ensures unbroken { result ≢ 3 → (R.has_failed input.new ≡ R.has_failed input.old) × (W.has_failed output.new ≡ W.has_failed output.old) }
     ensures quiet { result ≢ 3 → faults.new ≡ faults.old }
 {
     let mut bytes = Vec::new(alloc);
     match read_stream(alloc, input, &mut bytes) {
         Ok(graph) => print_limited(alloc, values, limit, &graph, output, faults),
-        Err(unread) => print_unread(alloc, unread, input.fault(), output, faults),
+        Err(unread) => print_unread(alloc, unread, Y::fault(input), output, faults),
     }
 }
 
@@ -44,7 +44,7 @@ fn print_limited<W: Sink, E: Sink>(
     alloc: Global,
     values: bool,
     limit: u64,
-    graph: &Index<'_>,
+    graph: &Index<&[u8]>,
     output: &mut W,
     faults: &mut E,
 ) -> u8
@@ -76,7 +76,7 @@ pub(crate) enum Limited {
 fn limited_text(
     alloc: Global,
     values: bool,
-    graph: &Index<'_>,
+    graph: &Index<&[u8]>,
     limit: u64,
 ) -> Result<Limited, AllocError>
     ensures { IfOk result (IsLimitedText values limit graph.now) }

@@ -14,8 +14,8 @@ ghost use Rattle.jser_commands.specs.Inputs.{IfUnreadRefused, IsReadFault};
 ghost use Rattle.jser_commands.specs.Lines.{AppendsSome, SaysText, SaysRefusal, SaysWhy, SaysUnwritten, KeptOrCut, KeptOrSaidSome, marked_words, verdict_words, words_on};
 
 use crate::input::{Unread, print_unread, unread_of};
+use crate::telling::Telling;
 use jser_filter::{Filter, Verdict};
-use jser_inputs::Input;
 use jser_names::{NameCount, NameCounts, names_of};
 use jser_prim::{Failed, Outbox, Sink, Source};
 use jser_printer::{write, write_decimal, write_quoted};
@@ -26,7 +26,7 @@ use std::alloc::Global;
 
 /// Reads the stream of the input in pieces, and prints the lines of its checked names.
 #[tactic(auto, using(crate::proofs::ListLemmas::says_listed, crate::proofs::InputLemmas::says_refusal, crate::proofs::InputLemmas::refusal_cut, crate::proofs::InputLemmas::unbroken_refusal, crate::proofs::InputLemmas::why_unread))]
-pub(crate) fn list<R: Input, W: Sink, E: Sink>(
+pub(crate) fn list<R: Source, Y: Telling<R>, W: Sink, E: Sink>(
     alloc: Global,
     filter: &Filter,
     input: &mut R,
@@ -37,14 +37,14 @@ pub(crate) fn list<R: Input, W: Sink, E: Sink>(
     ensures refused { result ≡ 1 → IfSome (R.to_come input.old) (λ bytes. SaysRefusal bytes (Appends (W.gone_out output.old) (W.gone_out output.new))) }
     ensures failed { result ≡ 3 → KeptOrSaidSome (W.has_failed output.new) (W.gone_out output.old) (W.gone_out output.new) (R.to_come input.old) (SaysText (listed (words_on filter.now))) SaysRefusal }
     ensures status { (result ≡ 0) ⊎ ((result ≡ 1) ⊎ (result ≡ 3)) }
-    ensures why { result ≡ 3 → SaysWhy (R.why_failed input.new) (R.has_failed input.old) (R.has_failed input.new) (W.has_failed output.old) (W.has_failed output.new) (E.has_failed faults.new) (E.gone_out faults.old) (E.gone_out faults.new) }
+    ensures why { result ≡ 3 → SaysWhy (Y.why_failed input.new) (R.has_failed input.old) (R.has_failed input.new) (W.has_failed output.old) (W.has_failed output.new) (E.has_failed faults.new) (E.gone_out faults.old) (E.gone_out faults.new) }
     ensures unbroken { result ≢ 3 → (R.has_failed input.new ≡ R.has_failed input.old) × (W.has_failed output.new ≡ W.has_failed output.old) }
     ensures quiet { result ≢ 3 → faults.new ≡ faults.old }
 {
     counted();
     match read_names(alloc, input) {
         Ok(names) => print_names(filter, &names, output, faults),
-        Err(unread) => print_unread(alloc, unread, input.fault(), output, faults),
+        Err(unread) => print_unread(alloc, unread, Y::fault(input), output, faults),
     }
 }
 

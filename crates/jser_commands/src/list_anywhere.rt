@@ -12,8 +12,8 @@ ghost use Rattle.jser_commands.specs.Places.{lines_of_both};
 use crate::hidden::hidden_names;
 use crate::input::{Unread, print_unread, unread_of};
 use crate::list::write_lines;
+use crate::telling::Telling;
 use jser_filter::Filter;
-use jser_inputs::Input;
 use jser_names::{NameCounts, NamedStream, bytes_and_names_of};
 use jser_prim::{Outbox, Sink, Source};
 use jser_settings::{ACCEPTED, tell_failure};
@@ -22,7 +22,7 @@ use std::alloc::Global;
 
 /// Reads the stream of the input, and prints the lines of its checked names and of those at any place.
 #[tactic(auto, using(crate::proofs::InputLemmas::says_refusal, crate::proofs::InputLemmas::refusal_cut, crate::proofs::InputLemmas::unbroken_refusal, crate::proofs::InputLemmas::why_unread))]
-pub(crate) fn list_anywhere<R: Input, W: Sink, E: Sink>(
+pub(crate) fn list_anywhere<R: Source, Y: Telling<R>, W: Sink, E: Sink>(
     alloc: Global,
     filter: &Filter,
     input: &mut R,
@@ -33,14 +33,14 @@ pub(crate) fn list_anywhere<R: Input, W: Sink, E: Sink>(
     ensures refused { result ≡ 1 → IfSome (R.to_come input.old) (λ bytes. SaysRefusal bytes (Appends (W.gone_out output.old) (W.gone_out output.new))) }
     ensures failed { result ≡ 3 → KeptOrSaidSome (W.has_failed output.new) (W.gone_out output.old) (W.gone_out output.new) (R.to_come input.old) (SaysListedAnywhere filter.now) SaysRefusal }
     ensures status { (result ≡ 0) ⊎ ((result ≡ 1) ⊎ (result ≡ 3)) }
-    ensures why { result ≡ 3 → SaysWhy (R.why_failed input.new) (R.has_failed input.old) (R.has_failed input.new) (W.has_failed output.old) (W.has_failed output.new) (E.has_failed faults.new) (E.gone_out faults.old) (E.gone_out faults.new) }
+    ensures why { result ≡ 3 → SaysWhy (Y.why_failed input.new) (R.has_failed input.old) (R.has_failed input.new) (W.has_failed output.old) (W.has_failed output.new) (E.has_failed faults.new) (E.gone_out faults.old) (E.gone_out faults.new) }
     ensures unbroken { result ≢ 3 → (R.has_failed input.new ≡ R.has_failed input.old) × (W.has_failed output.new ≡ W.has_failed output.old) }
     ensures quiet { result ≢ 3 → faults.new ≡ faults.old }
 {
     counted();
     match read_whole(alloc, input) {
         Ok(whole) => print_whole(alloc, filter, &whole, output, faults),
-        Err(unread) => print_unread(alloc, unread, input.fault(), output, faults),
+        Err(unread) => print_unread(alloc, unread, Y::fault(input), output, faults),
     }
 }
 

@@ -29,7 +29,7 @@ pub struct Start {
 pub fn start_of_show(
     alloc: Global,
     values: bool,
-    graph: &Index<'_>,
+    graph: &Index<&[u8]>,
     limit: u64,
 ) -> Result<Start, AllocError>
     ensures { IfOk result (IsFrontOf values graph.now) }

@@ -1,12 +1,11 @@
 -- What an explanation is of, and what goes out of it.
-use Rattle.std.specs.Prelude.{◌≡◌, ◌<◌, ◌^◌, ◌⊎◌, ℕ, Bool, true, false, List, ◌++◌, [], codes, length, Option, IfSome}
+use Rattle.std.specs.Prelude.{◌≡◌, ◌<◌, ◌^◌, ◌⊎◌, ℕ, Bool, true, false, List, ◌++◌, [], length, Option, IfSome}
 use Rattle.std.specs.Io.KnownBytes.{Appends, Keeps}
 use Rattle.jser_filter.specs.Filters.{FilterView}
-use Rattle.jser_inputs.specs.declared.fault.InputFault.{InputFault}
-use Rattle.jser_settings.specs.Settings.{Tells, TellsInputFault, TellsNoMemory}
+use Rattle.jser_settings.specs.Settings.{TellsInputFault}
 use Rattle.jser_commands.specs.declared.job.Job.{Job}
 use Rattle.jser_commands.specs.declared.job.Job.TheVariants as job
-use Rattle.jser_commands.specs.Lines.{yes_line, no_line, hidden_line, KeptOrCut, SaysFailed, SaysRefused}
+use Rattle.jser_commands.specs.Lines.{yes_line, no_line, hidden_line, KeptOrCut, SaysFailed, SaysRefused, SaysUnwritten}
 use Rattle.jser_scan.specs.declared.check.Rules.{Rules}
 use Rattle.jser_scan.specs.declared.found.Found.{Found}
 use Rattle.jser_scan.specs.declared.found.Found.TheVariants as found
@@ -97,8 +96,11 @@ LeavesSome rules told failed old new =
     SaysFailed (asked rules) told failed old new
     ⊎ IfSome told (λ bytes. SaysRefused (asked rules) bytes (ExplainedSome rules bytes failed old new))
 
--- why there is no answer, as it was told: the input was not read, the output failed, or memory ran out
-abbrev pub TellsWhy : (broken failed : Bool) → (old new : Option (List ℕ)) → Type 0
-TellsWhy broken failed old new =
-    ((fault : InputFault) × TellsInputFault fault failed old new)
-    ⊎ (((broken ≡ true) × Tells failed old new (codes "write failed\n")) ⊎ TellsNoMemory failed old new)
+-- Why what was found was not said, as it was told: by its fault, of an input that was not read; else the output failed, or memory ran out.
+abbrev pub WhyUnsaid : Found → (write_before write_after failed : Bool) → (old new : Option (List ℕ)) → Type 0
+WhyUnsaid (found.Accepted totals) before after failed old new = SaysUnwritten before after failed old new
+WhyUnsaid (found.Refused refusal class) before after failed old new = SaysUnwritten before after failed old new
+WhyUnsaid (found.Hidden from to class) before after failed old new = SaysUnwritten before after failed old new
+WhyUnsaid found.NotOpened before after failed old new = SaysUnwritten before after failed old new
+WhyUnsaid (found.NotRead fault) before after failed old new = (after ≡ before) × TellsInputFault fault failed old new
+WhyUnsaid found.OutOfMemory before after failed old new = SaysUnwritten before after failed old new

@@ -1,7 +1,7 @@
 //! The line of an answer.
 ghost use Rattle.std.specs.Prelude.{◌≡◌, ◌≢◌};
 ghost use Rattle.std.specs.Io.KnownBytes.{Appends};
-ghost use Rattle.jser_explain.specs.Explains.{line_of, HasStatus, LeavesLine, TellsWhy};
+ghost use Rattle.jser_explain.specs.Explains.{line_of, HasStatus, LeavesLine, WhyUnsaid};
 
 use jser_commands::{print_line, text_of_hidden, text_of_refusal, text_of_report};
 use jser_prim::Sink;
@@ -11,7 +11,7 @@ use std::alloc::Global;
 
 /// Prints the line of `check` for what was found of an input that was opened, and returns the status; or tells why there is no
 /// answer.
-#[tactic(auto, using(crate::proofs::LineLemmas::told_of_line, crate::proofs::LineLemmas::told_of_fault, crate::proofs::LineLemmas::told_of_memory, jser_commands::proofs::Lines::line_cut, jser_commands::proofs::Lines::kept))]
+#[tactic(auto, using(jser_commands::proofs::Lines::line_cut, jser_commands::proofs::Lines::kept))]
 pub(crate) fn print_answer<W: Sink, E: Sink>(
     alloc: Global,
     found: &Found,
@@ -22,7 +22,7 @@ pub(crate) fn print_answer<W: Sink, E: Sink>(
     ensures status { HasStatus found.now result }
     ensures printed { result ≢ 3 → Appends (W.gone_out output.old) (W.gone_out output.new) (line_of found.now) }
     ensures failed { result ≡ 3 → LeavesLine found.now (W.has_failed output.new) (W.gone_out output.old) (W.gone_out output.new) }
-    ensures why { result ≡ 3 → TellsWhy (W.has_failed output.new) (E.has_failed faults.new) (E.gone_out faults.old) (E.gone_out faults.new) }
+    ensures why { result ≡ 3 → WhyUnsaid found.now (W.has_failed output.old) (W.has_failed output.new) (E.has_failed faults.new) (E.gone_out faults.old) (E.gone_out faults.new) }
     ensures unbroken { result ≢ 3 → W.has_failed output.new ≡ W.has_failed output.old }
     ensures quiet { result ≢ 3 → faults.new ≡ faults.old }
 {

@@ -1,7 +1,6 @@
 pub mod AsFilterBox
 pub mod AsStreamBox
 pub mod ToldLemmas
-pub mod PiecesLemmas
 pub mod RoomLemmas
 pub mod CompileLemmas
 pub mod TextLemmas
@@ -9,4 +8,4 @@ pub mod ZeroLemmas
 pub mod LentSteps
 pub mod LineLemmas
 pub mod ClassLemmas
-pub mod WholeLemmas
+pub mod StreamLemmas

@@ -1,7 +1,6 @@
 pub mod Ways
 pub mod Compiling
 pub mod Told
-pub mod Pieces
 pub mod Streams
 pub mod Rooms
 pub mod Texts

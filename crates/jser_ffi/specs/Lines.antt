@@ -1,5 +1,5 @@
 -- Short texts in a room: the names of reasons and causes, and the line of an answer.
-use Rattle.std.specs.Prelude.{ℕ, ◌≡◌, ◌⊎◌, ◌+◌, ◌*◌, ◌==◌, if◌then◌else◌, true, false, List, ◌++◌, codes, length, Option, Some, None, option_map}
+use Rattle.std.specs.Prelude.{ℕ, ◌≡◌, ◌+◌, ◌*◌, ◌==◌, if◌then◌else◌, List, ◌++◌, codes, Option, Some, None, option_map}
 use Rattle.jser_reader.specs.declared.Reason.{Reason}
 use Rattle.jser_reader.specs.declared.Reason.TheVariants as reason
 use Rattle.jser_reader.specs.ReasonNames.{reason_name}

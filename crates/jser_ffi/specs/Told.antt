@@ -1,24 +1,21 @@
 -- What the numbers of an answer to a check mean.
-use Rattle.std.specs.Prelude.{ℕ, ◌≡◌, ◌≢◌, ◌⊎◌, ◌+◌, ◌==◌, ◌||◌, if◌then◌else◌, min, Bool, true, false, List, Option, Some, None, Result, Ok, Err}
+use Rattle.std.specs.Prelude.{ℕ, ◌≡◌, ◌≢◌, ◌⊎◌, ◌+◌, ◌==◌, ◌||◌, if◌then◌else◌, min, List, ◌++◌, ◌<◌, length, Result, Ok, Err}
 use Rattle.jser_reader.specs.declared.Reason.{Reason}
 use Rattle.jser_reader.specs.declared.Reason.TheVariants as reason
 use Rattle.jser_reader.specs.declared.Refusal.{Refusal}
-use Rattle.jser_reader.specs.declared.Stop.{Stop}
 use Rattle.jser_reader.specs.declared.Stop.TheVariants as stop
 use Rattle.jser_reader.specs.declared.Totals.{Totals}
 use Rattle.jser_filter.specs.Filters.{FilterView}
 use Rattle.jser_check.specs.declared.Options.{Options}
 use Rattle.jser_check.specs.Admitted.{gate_of_filter}
-use Rattle.jser_check.specs.Answers.{Reports, Refuses, CarriesFirst}
-use Rattle.jser_check.specs.Checks.{IsCut}
+use Rattle.jser_check.specs.Answers.{Refuses, CarriesFirst}
+use Rattle.jser_check.specs.Checks.{DecidesIn, IsCut}
 use Rattle.jser_check.specs.Fronts.{IsFront}
-use Rattle.jser_anywhere.specs.declared.Hidden.{Hidden}
 use Rattle.jser_anywhere.specs.Standing.{AllPass}
-use Rattle.jser_check_anywhere.specs.Passing.{passes_name}
-use Rattle.jser_check_anywhere.specs.declared.AnywhereFault.{AnywhereFault}
-use Rattle.jser_check_anywhere.specs.declared.AnywhereFault.TheVariants as fault
-use Rattle.jser_check_anywhere.specs.Answers.{NoneSooner, ReportsAnywhere, TellsHidden}
-use Rattle.jser_check_anywhere.specs.Joins.{sooner_of}
+use Rattle.jser_check.specs.Passing.{Asked, asking, passes_in}
+use Rattle.jser_check.specs.declared.AnywhereFault.{AnywhereFault}
+use Rattle.jser_check.specs.declared.AnywhereFault.TheVariants as fault
+use Rattle.jser_check.specs.Pieces.{Checking, HasTaken, NoneSooner, ReportsBy, TellsHidden}
 use Rattle.jser_ffi.specs.declared.answer.Answer.{Answer}
 use Rattle.jser_ffi.specs.declared.compiled.Compiled.{Compiled}
 use Rattle.jser_ffi.specs.Compiling.{IsCompiled}
@@ -79,17 +76,6 @@ pub record HasHidden (answer : Answer) (from to : ℕ) : Type 0 where
   pub begins : answer.from_byte ≡ from
   pub ends : answer.to_byte ≡ to
 
--- the answer to why a reader stopped
-abbrev pub HasStop : Answer → Stop → Type 0
-HasStop answer (stop.Refused refusal) = HasRefusal answer refusal
-HasStop answer stop.OutOfMemory = answer.status ≡ 3
-HasStop answer stop.Spent = answer.status ≡ 5
-
--- and to what a check answers at the end
-abbrev pub HasEnd : Answer → Result Totals Stop → Type 0
-HasEnd answer (Ok report) = HasReport answer report
-HasEnd answer (Err why) = HasStop answer why
-
 -- the answer to a fault
 abbrev pub HasFault : Answer → AnywhereFault → Type 0
 HasFault answer (fault.Stop (stop.Refused refusal)) = HasRefusal answer refusal
@@ -98,13 +84,10 @@ HasFault answer (fault.Stop stop.Spent) = answer.status ≡ 5
 HasFault answer fault.ReadFault = answer.status ≡ 5
 HasFault answer (fault.Hidden from to) = HasHidden answer from to
 
--- the answer to the first fault of a piece, if there is one; and to a refusal beside a hidden name
-abbrev pub HasFirst : Answer → Option AnywhereFault → Type 0
-HasFirst answer None = answer.status ≡ 4
-HasFirst answer (Some why) = HasFault answer why
-
-abbrev pub HasSooner : Answer → Refusal → Option Hidden → Type 0
-HasSooner answer refusal name = HasFault answer (sooner_of refusal name)
+-- the answer to what a check answers of all bytes
+abbrev pub HasAnswer : Answer → Result Totals AnywhereFault → Type 0
+HasAnswer answer (Ok report) = HasReport answer report
+HasAnswer answer (Err why) = HasFault answer why
 
 -- ---- what a status does not speak of is 0
 
@@ -164,39 +147,51 @@ pub record TellsRefusal (Right : Refusal → Type 0) (answer : Answer) : Type 0 
 abbrev pub IsRight : FilterView → Options → List ℕ → Refusal → Type 0
 IsRight filter options bytes refusal = Refuses filter options bytes refusal × CarriesFirst (gate_of_filter filter options) bytes refusal
 
-pub record SaysPlain (filter : FilterView) (options : Options) (bytes : List ℕ) (answer : Answer) : Type 0 where
-  pub accepted : answer.status ≡ 0 → Reports filter options bytes (report_in answer)
-  pub refused : answer.status ≡ 1 → TellsRefusal (IsRight filter options bytes) answer
+-- and no hidden name ends before it; that the bytes end too early is told where all names pass
+abbrev pub IsRightAnywhere : Asked → List ℕ → Refusal → Type 0
+IsRightAnywhere asked bytes refusal =
+    (IsRight asked.filter asked.options bytes refusal × NoneSooner asked bytes refusal.to_byte) × (IsCut refusal → AllPass (passes_in asked) bytes)
+
+-- a hidden name stands in the answer, and no fault ends before it
+abbrev pub TellsName : Asked → List ℕ → Answer → Type 0
+TellsName asked bytes answer = (answer.reason ≡ 26) × TellsHidden asked bytes answer.from_byte answer.to_byte
+
+-- what is asked says this of the bytes; where it is not asked about names at any place, none is hidden
+pub record SaysOf (asked : Asked) (bytes : List ℕ) (answer : Answer) : Type 0 where
+  pub accepted : answer.status ≡ 0 → ReportsBy asked bytes (report_in answer)
+  pub refused : answer.status ≡ 1 → TellsRefusal (IsRightAnywhere asked bytes) answer ⊎ TellsName asked bytes answer
   pub known : (answer.status ≡ 0) ⊎ ((answer.status ≡ 1) ⊎ (answer.status ≡ 3))
 
--- Of a check that asks about every class name that can be read at any place: such a refusal, and no hidden name ends before the
--- refusal, and that the bytes end too early is told where all names pass; or there is one, and no fault ends before it.
-
-abbrev pub IsRightAnywhere : FilterView → Options → List ℕ → Refusal → Type 0
-IsRightAnywhere filter options bytes refusal =
-    (IsRight filter options bytes refusal × NoneSooner filter options bytes refusal.to_byte) × (IsCut refusal → AllPass (passes_name filter options) bytes)
-
-abbrev pub TellsName : FilterView → Options → List ℕ → Answer → Type 0
-TellsName filter options bytes answer = (answer.reason ≡ 26) × TellsHidden filter options bytes answer.from_byte answer.to_byte
-
-pub record SaysAnywhere (filter : FilterView) (options : Options) (bytes : List ℕ) (answer : Answer) : Type 0 where
-  pub accepted : answer.status ≡ 0 → ReportsAnywhere filter options bytes (report_in answer)
-  pub refused : answer.status ≡ 1 → TellsRefusal (IsRightAnywhere filter options bytes) answer ⊎ TellsName filter options bytes answer
-  pub known : (answer.status ≡ 0) ⊎ ((answer.status ≡ 1) ⊎ (answer.status ≡ 3))
-
--- by how the filter is asked
-abbrev pub SaysBy : (anywhere : Bool) → FilterView → Options → List ℕ → Answer → Type 0
-SaysBy false filter options bytes answer = SaysPlain filter options bytes answer
-SaysBy true filter options bytes answer = SaysAnywhere filter options bytes answer
+-- what the filter that was read is asked
+abbrev pub asked_in : Compiled → Asked
+asked_in compiled = asking compiled.applied.filter compiled.applied.options compiled.anywhere
 
 -- what the filter that was read says of the bytes, and how many of them are whole contents
 abbrev pub Says : Compiled → List ℕ → Answer → Type 0
-Says compiled bytes answer =
-    SaysBy compiled.anywhere compiled.applied.filter compiled.applied.options bytes answer
-    × SaysWhole compiled.applied.filter compiled.applied.options bytes answer
+Says compiled bytes answer = SaysOf (asked_in compiled) bytes answer × SaysWhole compiled.applied.filter compiled.applied.options bytes answer
 
 -- what a check says under the filter of a text and of a table of modules
 pub record SaysUnder (flags : ℕ) (text modules bytes : List ℕ) (answer : Answer) : Type 0 where
   pub compiled : Compiled
   pub is : IsCompiled flags text modules compiled
   pub says : Says compiled bytes answer
+
+-- ---- what a check says of the next bytes
+
+-- a refusal that a byte of the piece decides, and no hidden name ends before it; or a hidden name that ends in the piece
+abbrev pub DecidesAlone : Asked → (taken piece : List ℕ) → Refusal → Type 0
+DecidesAlone asked taken piece refusal = DecidesIn asked.filter asked.options taken piece refusal × NoneSooner asked (taken ++ piece) refusal.to_byte
+
+pub record TellsNameIn (asked : Asked) (taken piece : List ℕ) (answer : Answer) : Type 0 where
+  pub number : answer.reason ≡ 26
+  pub hidden : TellsHidden asked (taken ++ piece) answer.from_byte answer.to_byte
+  pub later : length taken < answer.to_byte
+
+abbrev pub RefusesNow : Asked → (taken piece : List ℕ) → Answer → Type 0
+RefusesNow asked taken piece answer = TellsRefusal (DecidesAlone asked taken piece) answer ⊎ TellsNameIn asked taken piece answer
+
+-- what the next bytes decide, of a check that took bytes which decide nothing
+pub record FedSays (asked : Asked) (new : Checking) (taken piece : List ℕ) (answer : Answer) : Type 0 where
+  pub more : answer.status ≡ 4 → HasTaken new (taken ++ piece)
+  pub refused : answer.status ≡ 1 → RefusesNow asked taken piece answer
+  pub known : (answer.status ≡ 4) ⊎ ((answer.status ≡ 1) ⊎ (answer.status ≡ 3))

@@ -1,16 +1,17 @@
 //! The class name of an answer, quoted.
-ghost use Rattle.std.specs.Prelude.{◌≡◌, ◌≢◌, ◌⊎◌, ℕ, List, [], Ok, None, length, IfOk, IfSome};
+ghost use Rattle.std.specs.Prelude.{◌≡◌, ◌≢◌, ◌⊎◌, ℕ, List, [], Ok, None, IfOk, IfSome};
 ghost use Rattle.std.specs.Option.{option_map};
 ghost use Rattle.jser_prim.specs.ModifiedUtf8.{IsUnits, modified_utf8};
-ghost use Rattle.jser_anywhere.specs.Standing.{StandsAt};
 ghost use Rattle.jser_shown.specs.Words.{quoted};
 ghost use Rattle.jser_ffi.specs.Classes.{IsNamedIn, NamesNone, PutsClass, part};
 ghost use Rattle.jser_ffi.specs.Rooms.{Puts};
+ghost use Rattle.jser_ffi.specs.Streams.{PutsRefused};
 ghost use Rattle.jser_ffi.specs.Told.{TextZeros};
 
 use crate::answer::{Answer, HIDDEN_NAME, NO_MEMORY, SPENT, bare};
 use crate::room::put;
-use jser_anywhere::Names;
+use crate::stream::Stream;
+use jser_anywhere::whole_class;
 use jser_prim::{Front, Outbox, read_units};
 use jser_printer::write_quoted;
 use std::alloc::{AllocError, Global};
@@ -34,6 +35,20 @@ pub(crate) fn class_into(alloc: Global, bytes: &[u8], answer: &Answer, room: &mu
     }
 }
 
+/// Puts the class name for which a stream is over into a room, quoted.
+#[tactic(auto, using(crate::proofs::ClassLemmas::puts_refused))]
+pub(crate) fn refused_into(alloc: Global, stream: &Stream, room: &mut [u8]) -> Answer
+    ensures puts { (result.status ≡ 0) ⊎ (result.status ≡ 6) → PutsRefused stream.now room.old room.new result }
+    ensures kept { (result.status ≡ 3) ⊎ (result.status ≡ 5) → room.new ≡ room.old }
+    ensures known { (result.status ≡ 0) ⊎ ((result.status ≡ 3) ⊎ ((result.status ≡ 5) ⊎ (result.status ≡ 6))) }
+    ensures zeros { TextZeros result }
+{
+    match stream.refused_class() {
+        Some(units) => quoted_into(alloc, units, room),
+        None => bare(SPENT),
+    }
+}
+
 /// The class name of an answer.
 fn class_of(alloc: Global, bytes: &[u8], answer: &Answer) -> Result<Option<Vec<u16>>, AllocError>
     ensures named { IfOk result (λ found. IfSome found (λ units. IsNamedIn bytes.now answer.now units.items)) }
@@ -43,7 +58,7 @@ fn class_of(alloc: Global, bytes: &[u8], answer: &Answer) -> Result<Option<Vec<u
         return Ok(None);
     };
     if answer.reason == HIDDEN_NAME {
-        hidden_class(alloc, text)
+        whole_class(alloc, text)
     } else {
         spelled_class(alloc, text)
     }
@@ -72,22 +87,6 @@ fn spelled_class(alloc: Global, text: &[u8]) -> Result<Option<Vec<u16>>, AllocEr
     } else {
         Ok(None)
     }
-}
-
-/// The class of the name that stands at the front of these bytes and ends where they end.
-#[tactic(auto, using(crate::proofs::ClassLemmas::first_names, crate::proofs::ClassLemmas::named_here))]
-fn hidden_class(alloc: Global, text: &[u8]) -> Result<Option<Vec<u16>>, AllocError>
-    ensures named { IfOk result (λ found. IfSome found (λ units. StandsAt text.now 0 (length text.now) units.items)) }
-    ensures none { result ≡ Ok None → (units : List ℕ) → StandsAt text.now 0 (length text.now) units → ⊥ }
-{
-    let mut names = Names::new(text);
-    'names: while let Some(found) = names.next() {
-        if found.from == 0 && found.to == text.len() {
-            let units = names.units().to_vec(alloc)?;
-            return Ok(Some(units));
-        }
-    }
-    Ok(None)
 }
 
 /// Puts a name into a room, quoted.

@@ -1,17 +1,16 @@
 //! A filter that was read once, and the check of bytes under it.
 ghost use Rattle.std.specs.Prelude.{◌≡◌, ◌⊎◌, IfOk, IfErr};
 ghost use Rattle.jser_ffi.specs.Compiling.{IsCompiled, IsCompiledFile, IsFilterOf, IsTableOf, TextIsFaulty, TextsAreFaulty, ModulesAreFaulty, SaysFileMisuse, SaysMisuse};
-ghost use Rattle.jser_ffi.specs.Told.{HasEnd, HasFault, HasWhole, Says, SaysAnywhere, SaysPlain, SaysWhole, Zeros};
+ghost use Rattle.jser_ffi.specs.Told.{Says, Zeros};
 
-use crate::answer::{Answer, NO_MEMORY, SPENT, accepted, bare, hidden, misuse, refused};
+use crate::answer::{Answer, NO_MEMORY, bare, misuse};
+use crate::checks::checked;
 use crate::misuse::{
     FILE_IS_NO_TEXT, FILTER_IS_NO_TEXT, MODULES_ARE_NO_TEXT, NO_PATTERN, UNKNOWN_FLAG, file_answer,
     filter_answer, modules_answer,
 };
-use crate::pieces::stopped;
 use crate::way::way_of;
-use jser_check::{FilterGate, Holds, Options, Report, Stop, judge_bytes};
-use jser_check_anywhere::{AnywhereChecker, AnywhereFault};
+use jser_check::{HeldGate, Holds};
 use jser_filter::{Filter, Modules};
 use jser_settings::{FileTextFault, filter_text_of, has_pattern};
 use jser_shared::SharedFilter;
@@ -22,7 +21,7 @@ use std::str;
 #[derive(Drop)]
 pub struct Compiled {
     /// The filter, with its table of modules and how it is applied to a name.
-    pub applied: FilterGate<SharedFilter>,
+    pub applied: HeldGate<SharedFilter>,
     /// Whether it is asked about every class name that can be read at any place of the bytes.
     pub anywhere: bool,
     pub(crate) alloc: Global,
@@ -56,7 +55,7 @@ pub(crate) fn compile(
     };
     match SharedFilter::new(alloc, filter) {
         Ok(shared) => Ok(Compiled {
-            applied: FilterGate::new(shared, way.options),
+            applied: HeldGate::new(shared, way.options),
             anywhere: way.anywhere,
             alloc,
         }),
@@ -152,11 +151,11 @@ impl Compiled {
     /// # Errors
     ///
     /// Where the filter has too many owners.
-    pub(crate) fn gate(&self) -> Result<FilterGate<SharedFilter>, AllocError>
+    pub(crate) fn gate(&self) -> Result<HeldGate<SharedFilter>, AllocError>
         ensures { IfOk result (λ gate. gate ≡ self.now.applied) }
     {
         match self.applied.holder().share() {
-            Ok(shared) => Ok(FilterGate::new(shared, self.applied.options())),
+            Ok(shared) => Ok(HeldGate::new(shared, self.applied.options())),
             Err(error) => Err(error),
         }
     }
@@ -166,66 +165,8 @@ impl Compiled {
         ensures says { Says self.now bytes.now result }
         ensures zeros { Zeros result }
     {
-        let alloc = self.alloc;
-        let (filter, options) = (self.applied.holder().filter(), self.applied.options());
-        if self.anywhere {
-            check_anywhere(alloc, bytes, filter, options)
-        } else {
-            check_plain(alloc, bytes, filter, options)
-        }
-    }
-}
-
-/// The answer to a check of bytes.
-#[tactic(auto, using(crate::proofs::WholeLemmas::judged_whole))]
-fn check_plain(alloc: Global, bytes: &[u8], filter: &Filter, options: Options) -> Answer
-    ensures says { SaysPlain filter.now options bytes.now result }
-    ensures whole { SaysWhole filter.now options bytes.now result }
-    ensures zeros { Zeros result }
-{
-    let judged = judge_bytes(alloc, bytes, filter, options);
-    judged_answer(judged.answer, judged.whole)
-}
-
-/// The answer to what a check of bytes answers.
-fn judged_answer(answer: Result<Report, Stop>, whole: u64) -> Answer
-    ensures has { HasEnd result answer }
-    ensures whole { HasWhole result whole }
-    ensures zeros { Zeros result }
-{
-    match answer {
-        Ok(report) => accepted(report, whole),
-        Err(stop) => stopped(stop, whole),
-    }
-}
-
-/// The answer to a check of bytes that asks about every class name that can be read at any place.
-#[tactic(auto, using(crate::proofs::ToldLemmas::fault_says, crate::proofs::ToldLemmas::end_says, crate::proofs::ToldLemmas::report_says))]
-fn check_anywhere(alloc: Global, bytes: &[u8], filter: &Filter, options: Options) -> Answer
-    ensures says { SaysAnywhere filter.now options bytes.now result }
-    ensures whole { SaysWhole filter.now options bytes.now result }
-    ensures zeros { Zeros result }
-{
-    let mut checker = AnywhereChecker::lent(alloc, filter, options);
-    match checker.feed(bytes) {
-        Ok(()) => match checker.finish() {
-            Ok(report) => accepted(report, checker.whole()),
-            Err(fault) => faulted(fault, checker.whole()),
-        },
-        Err(fault) => faulted(fault, checker.whole()),
-    }
-}
-
-/// The answer to a fault.
-fn faulted(fault: AnywhereFault, whole: u64) -> Answer
-    ensures has { HasFault result fault }
-    ensures whole { HasWhole result whole }
-    ensures zeros { Zeros result }
-{
-    match fault {
-        AnywhereFault::Stop(Stop::Refused(refusal)) => refused(refusal, whole),
-        AnywhereFault::Stop(Stop::OutOfMemory) => bare(NO_MEMORY),
-        AnywhereFault::Stop(Stop::Spent) | AnywhereFault::ReadFault => bare(SPENT),
-        AnywhereFault::Hidden { from_byte, to_byte } => hidden(from_byte, to_byte, whole),
+        let filter = self.applied.holder().filter();
+        let gate = HeldGate::new(filter, self.applied.options());
+        checked(self.alloc, bytes, gate, self.anywhere)
     }
 }

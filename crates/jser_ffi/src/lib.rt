@@ -20,12 +20,12 @@ ghost use Rattle.jser_ffi.specs.Rooms.{Puts};
 ghost use Rattle.jser_index.specs.Reading.{IsRefused};
 ghost use Rattle.jser_ffi.specs.Texts.{TellsList, TellsText};
 ghost use Rattle.jser_ffi.specs.Told.{Says, SaysUnder, TellsRefusal, TextZeros, Zeros, bare_answer, reason_number};
-ghost use Rattle.jser_ffi.specs.Streams.{Taken, Begins, BeginsUnder, FeedSays, EndSays, HoldsZeros};
+ghost use Rattle.jser_ffi.specs.Streams.{Taken, Begins, BeginsUnder, FeedSays, EndSays, HoldsZeros, IsOver, PutsRefused};
 ghost use Rattle.jser_ffi.specs.declared.answer.Answer.{Answer};
 ghost use Rattle.jser_ffi.specs.declared.stream.Stream.{Stream};
-ghost use Rattle.jser_ffi.specs.declared.stream.Stream.TheVariants as state;
 
 mod answer;
+mod checks;
 mod class;
 mod compiled;
 mod filter_handle;
@@ -36,7 +36,6 @@ mod line;
 mod misuse;
 mod named;
 mod parts;
-mod pieces;
 mod room;
 mod stream;
 mod stream_handle;
@@ -44,7 +43,7 @@ mod text;
 mod way;
 
 use answer::{Answer, NO_MEMORY, SPENT, bare};
-use class::class_into;
+use class::{class_into, refused_into};
 use compiled::{Compiled, compile, compile_file};
 use filter_handle::FilterHandle;
 use lent_filter::{LentFilter, is_open, pointer_of};
@@ -280,8 +279,8 @@ pub extern "C" fn serialcheck_stream_feed(
     ensures status { result ≡ answer.new.status }
     ensures says { (old : Stream) → stream.old.owner.held ≡ Some old → (taken : List ℕ) → Taken old taken
         → HoldsSuch (λ new. FeedSays old new taken bytes.now answer.new) stream.new.owner.held }
-    ensures stops { stream.old.owner.held ≢ None → result ≢ 4 → stream.new.owner.held ≡ Some (state.Over answer.new) }
-    ensures over { (before : Answer) → stream.old.owner.held ≡ Some (state.Over before) → (answer.new ≡ before) × (stream.new.owner.held ≡ Some (state.Over before)) }
+    ensures stops { stream.old.owner.held ≢ None → result ≢ 4 → HoldsSuch (IsOver answer.new) stream.new.owner.held }
+    ensures over { (old : Stream) → stream.old.owner.held ≡ Some old → (before : Answer) → IsOver before old → (answer.new ≡ before) × (stream.new.owner.held ≡ Some old) }
     ensures empty { stream.old.owner.held ≡ None → (result ≡ 5) × (stream.new.owner.held ≡ None) }
     ensures zeros { HoldsZeros stream.old.owner.held → Zeros answer.new × HoldsZeros stream.new.owner.held }
 {
@@ -305,7 +304,7 @@ pub extern "C" fn serialcheck_stream_end(
 ) -> u32
     ensures status { result ≡ answer.new.status }
     ensures says { (old : Stream) → stream.old.owner.held ≡ Some old → (taken : List ℕ) → Taken old taken → EndSays old taken answer.new }
-    ensures over { (before : Answer) → stream.old.owner.held ≡ Some (state.Over before) → answer.new ≡ before }
+    ensures over { (old : Stream) → stream.old.owner.held ≡ Some old → (before : Answer) → IsOver before old → answer.new ≡ before }
     ensures empty { stream.old.owner.held ≡ None → result ≡ 5 }
     ensures zeros { HoldsZeros stream.old.owner.held → Zeros answer.new }
     ensures gone { stream.new.owner.held ≡ None }
@@ -452,5 +451,33 @@ pub extern "C" fn serialcheck_class(
     ensures zeros { TextZeros told.new }
 {
     *told = class_into(alloc, bytes, answer, room);
+    told.status
+}
+
+/// Writes the class name for which a stream was refused into a room, quoted as the program prints it: that of its last answer, of
+/// `serialcheck_stream_feed`. The stream stays as it is.
+#[unsafe(no_mangle)]
+pub extern "C" fn serialcheck_stream_class(
+    alloc: Global,
+    stream: &mut StreamHandle,
+    room: &mut [u8],
+    told: &mut Answer,
+) -> u32
+    ensures status { result ≡ told.new.status }
+    ensures puts { (result ≡ 0) ⊎ (result ≡ 6) → HoldsSuch (λ now. PutsRefused now room.old room.new told.new) stream.old.owner.held }
+    ensures empty { stream.old.owner.held ≡ None → result ≡ 5 }
+    ensures stays { stream.new.owner.held ≡ stream.old.owner.held }
+    ensures kept { (result ≡ 3) ⊎ (result ≡ 5) → room.new ≡ room.old }
+    ensures known { (result ≡ 0) ⊎ ((result ≡ 3) ⊎ ((result ≡ 5) ⊎ (result ≡ 6))) }
+    ensures zeros { TextZeros told.new }
+{
+    *told = match stream.take(alloc) {
+        Some(held) => {
+            let answer = refused_into(alloc, &held, room);
+            stream.put(alloc, held);
+            answer
+        }
+        None => bare(SPENT),
+    };
     told.status
 }

@@ -1,47 +1,44 @@
 //! A stream that is checked in pieces.
-ghost use Rattle.std.specs.Prelude.{◌≡◌, ◌≢◌, ℕ, List, IfOk};
+ghost use Rattle.std.specs.Prelude.{◌≡◌, ◌≢◌, ◌⊎◌, ℕ, List, IfOk, IfSome};
 ghost use Rattle.jser_ffi.specs.declared.answer.Answer.{Answer};
 ghost use Rattle.jser_ffi.specs.Told.{Zeros};
-ghost use Rattle.jser_ffi.specs.declared.stream.Stream.TheVariants as state;
-ghost use Rattle.jser_ffi.specs.Streams.{Taken, Begins, KeepsZeros, NextSays, FeedSays, EndSays};
+ghost use Rattle.jser_ffi.specs.Streams.{Taken, Begins, HasNotPassed, IsOpen, IsOver, KeepsZeros, NextSays, FeedSays, EndSays};
 
 use crate::answer::{Answer, MORE};
+use crate::checks::{ended, fed};
 use crate::compiled::Compiled;
-use crate::pieces::{end_anywhere, end_plain, feed_anywhere, feed_plain};
-use jser_anywhere::Scan;
-use jser_check::FilterGate;
-use jser_reader::Reader;
+use jser_check::Check;
 use jser_shared::SharedFilter;
 use std::alloc::AllocError;
+use std::mem;
 
 /// A stream that is being checked, or what was answered of it.
 #[derive(Drop)]
 pub enum Stream {
     /// It is checked, and nothing is decided yet.
-    Plain(Reader<FilterGate<SharedFilter>>),
-    /// It is checked, the filter is asked about every class name that can be read at any place, and nothing is decided yet.
-    Anywhere(Reader<FilterGate<SharedFilter>>, Scan),
+    Open(Check<SharedFilter>),
     /// It cannot go on: each call answers this.
     Over(Answer),
+    /// The same, for a class name that the filter did not let pass, which the check still has.
+    Refused(Answer, Check<SharedFilter>),
 }
 
 impl Stream {
-    /// A stream of which nothing has come yet. It takes no memory.
+    /// A stream of which nothing has come yet.
     ///
     /// # Errors
     ///
-    /// Where the filter has too many owners.
+    /// Where the filter has too many owners, and where there is no memory for the names at any place.
     pub(crate) fn new(compiled: &Compiled) -> Result<Stream, AllocError>
         ensures { IfOk result (Begins compiled.now) }
     {
-        let reader = match compiled.gate() {
-            Ok(gate) => Reader::new(compiled.alloc, gate),
+        let gate = match compiled.gate() {
+            Ok(gate) => gate,
             Err(error) => return Err(error),
         };
-        if compiled.anywhere {
-            Ok(Stream::Anywhere(reader, Scan::new()))
-        } else {
-            Ok(Stream::Plain(reader))
+        match Check::under(compiled.alloc, gate, compiled.anywhere) {
+            Ok(check) => Ok(Stream::Open(check)),
+            Err(error) => Err(error),
         }
     }
 
@@ -49,26 +46,40 @@ impl Stream {
     pub(crate) fn feed(&mut self, piece: &[u8]) -> Answer
         ensures says { (taken : List ℕ) → Taken self.old taken → FeedSays self.old self.new taken piece.now result }
         ensures zeros { KeepsZeros self.old → Zeros result × KeepsZeros self.new }
-        ensures stops { result.status ≢ 4 → self.new ≡ state.Over result }
-        ensures over { (answer : Answer) → self.old ≡ state.Over answer → (result ≡ answer) × (self.new ≡ state.Over answer) }
+        ensures stops { result.status ≢ 4 → IsOver result self.new }
+        ensures over { (answer : Answer) → IsOver answer self.old → (result ≡ answer) × (self.new ≡ self.old) }
     {
         let answer = self.next(piece);
         if answer.status != MORE {
-            *self = Stream::Over(answer);
+            self.stop(answer);
         }
         answer
+    }
+
+    /// It is over, and answers this. A function of its own, since a call clears the room of each value that it may make.
+    #[inline(never)]
+    fn stop(&mut self, answer: Answer)
+        ensures stops { IsOver answer self.old ⊎ IsOpen self.old → IsOver answer self.new }
+        ensures stays { IsOver answer self.old → self.new ≡ self.old }
+    {
+        *self = match mem::replace(self, Stream::Over(answer)) {
+            Stream::Open(check) => stopped(answer, check),
+            Stream::Over(before) => Stream::Over(before),
+            Stream::Refused(before, check) => Stream::Refused(before, check),
+        };
     }
 
     /// Takes the next bytes of a stream of which nothing is decided yet.
     fn next(&mut self, piece: &[u8]) -> Answer
         ensures says { (taken : List ℕ) → Taken self.old taken → NextSays self.old self.new taken piece.now result }
         ensures zeros { KeepsZeros self.old → Zeros result × KeepsZeros self.new }
-        ensures over { (answer : Answer) → self.old ≡ state.Over answer → (result ≡ answer) × (self.new ≡ state.Over answer) }
+        ensures over { (answer : Answer) → IsOver answer self.old → (result ≡ answer) × (self.new ≡ self.old) }
+        ensures stops { result.status ≢ 4 → IsOver result self.new ⊎ IsOpen self.new }
     {
         match self {
-            Stream::Plain(reader) => feed_plain(reader, piece),
-            Stream::Anywhere(reader, scan) => feed_anywhere(reader, scan, piece),
+            Stream::Open(check) => fed(check, piece),
             Stream::Over(answer) => *answer,
+            Stream::Refused(answer, _) => *answer,
         }
     }
 
@@ -76,12 +87,33 @@ impl Stream {
     pub(crate) fn finish(&mut self) -> Answer
         ensures says { (taken : List ℕ) → Taken self.old taken → EndSays self.old taken result }
         ensures zeros { KeepsZeros self.old → Zeros result }
-        ensures over { (answer : Answer) → self.old ≡ state.Over answer → result ≡ answer }
+        ensures over { (answer : Answer) → IsOver answer self.old → result ≡ answer }
     {
         match self {
-            Stream::Plain(reader) => end_plain(reader),
-            Stream::Anywhere(reader, scan) => end_anywhere(reader, scan),
+            Stream::Open(check) => ended(check),
             Stream::Over(answer) => *answer,
+            Stream::Refused(answer, _) => *answer,
         }
+    }
+
+    /// The class name for which it is over, if that is why.
+    pub(crate) fn refused_class(&self) -> Option<&[u16]>
+        ensures { IfSome result (λ units. HasNotPassed self.now units.now) }
+    {
+        match self {
+            Stream::Refused(_, check) => check.refused_class(),
+            Stream::Open(_) | Stream::Over(_) => None,
+        }
+    }
+}
+
+/// A stream that is over, of a check that stopped.
+fn stopped(answer: Answer, check: Check<SharedFilter>) -> Stream
+    ensures { IsOver answer result }
+{
+    if check.refused_class().is_some() {
+        Stream::Refused(answer, check)
+    } else {
+        Stream::Over(answer)
     }
 }

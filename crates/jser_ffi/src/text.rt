@@ -14,8 +14,7 @@ use crate::room::put_start;
 use jser_commands::{start_of_list, start_of_show};
 use jser_filter::Filter;
 use jser_index::Index;
-use jser_names::{NameCounts, NamesFault, names_of};
-use jser_prim::FromRead;
+use jser_names::{Found, NameCounts, names_in};
 use jser_reader::Stop;
 use jser_shown::laws::counted;
 use std::alloc::Global;
@@ -37,7 +36,7 @@ pub(crate) fn show_text(alloc: Global, bytes: &[u8], most: usize, room: &mut [u8
 }
 
 /// Puts the text of `show` of a stream into a room.
-fn put_show(alloc: Global, index: &Index<'_>, most: usize, room: &mut [u8]) -> Answer
+fn put_show(alloc: Global, index: &Index<&[u8]>, most: usize, room: &mut [u8]) -> Answer
     ensures shown { PutsShown most index.now room.old room.new result }
     ensures kept { result.status ≡ 3 → room.new ≡ room.old }
     ensures known { (result.status ≡ 0) ⊎ ((result.status ≡ 3) ⊎ (result.status ≡ 6)) }
@@ -83,9 +82,9 @@ fn list_under(alloc: Global, bytes: &[u8], filter: &Filter, most: usize, room: &
     ensures zeros { TextZeros result }
 {
     counted();
-    match names_of(alloc, &mut FromRead::new(bytes)) {
-        Ok(names) => put_list(alloc, filter, &names, most, room),
-        Err(NamesFault::Refused(refusal)) => refused(refusal, 0),
+    match names_in(alloc, bytes) {
+        Ok(Found { names, .. }) => put_list(alloc, filter, &names, most, room),
+        Err(Stop::Refused(fault)) => refused(fault, 0),
         Err(_) => bare(NO_MEMORY),
     }
 }

@@ -1,6 +1,6 @@
 -- Tables of modules: reading a text line by line.
 use denote.Bor.{Bor}
-use Rattle.std.proofs.Common.{◌≡◌, ℕ, ◌+◌, ◌<◌, ◌≤◌, ◌==◌, List, [], ◌∷◌, ◌++◌, length, map, take, drop, get_or, slice_get, Option, Some, None, option_and_then, option_map, position, cond, Bool, true, false, add-one, refl, ap, sym, ◌∙◌, subst, inl, inr, arith}
+use Rattle.std.proofs.Common.{◌≡◌, ℕ, ◌+◌, ◌<◌, ◌≤◌, ◌==◌, List, [], ◌∷◌, ◌++◌, length, map, take, drop, get_or, slice_get, Option, Some, None, option_and_then, option_map, cond, Bool, true, false, add-one, refl, ap, sym, ◌∙◌, subst, inl, inr, arith}
 use Rattle.std.specs.Prelude.{IfSome}
 use Rattle.std.proofs.lemmas.Bool.{cases_lt}
 use Rattle.std.proofs.lemmas.Option.{slice_get-get_or}
@@ -8,16 +8,14 @@ use Rattle.std.proofs.lemmas.List.{length-map, map_push, length-drop, drop_more,
 use Rattle.jser_filter.specs.declared.fault.ModulesFault.{ModulesFault}
 use Rattle.jser_filter.specs.declared.fault.ModulesCause.TheVariants as cause
 use Rattle.std.proofs.lemmas.List.Splits.{length-slice_split}
-use Rattle.jser_filter.specs.declared.modules.Entry.{Entry as KeptEntry}
 use Rattle.jser_filter.specs.Cuts.{split_at_each, split_with}
-use Rattle.jser_filter.specs.Tables.{Entry, ModuleTable, module_of, module_at, Line, empty_line, bad_line, entry_line, read_line, lines_of, table_of, fault_in, line_fault, view_entry, IsLineCause, NoFaultBefore, IsFirstLineFault}
-use Rattle.std.specs.List.{position_from}
+use Rattle.jser_filter.specs.Tables.{Entry, ModuleTable, module_of, entry_of, Line, empty_line, bad_line, entry_line, read_line, lines_of, table_of, fault_in, line_fault, view_entry, IsLineCause, NoFaultBefore, IsFirstLineFault}
+use Rattle.std.specs.Global.{Global}
+use Rattle.std.specs.Map.{lookup}
+use Rattle.std.specs.Prelude.{Vec}
+use Rattle.std.proofs.lemmas.Cmp.{nat_list_eq_equiv}
+use Rattle.indexmap.specs.IndexMap.{insert_entry}
 use Rattle.std.specs.Str.{bytes_eq}
-use Rattle.std.proofs.lemmas.Iterator.Adapters.{position_from-zero}
-use Rattle.jser_filter.specs.declared.places.Places.{Places}
-use Rattle.jser_filter.specs.Places.{place_of, or_else, PutsFirst}
-use Rattle.jser_filter.specs.Index.{has_package, ArePackages}
-use Rattle.jser_filter.proofs.PositionLemmas.{position-push, or_cond, position_from-shift}
 use Rattle.jser_filter.proofs.FilterLemmas.{left_length}
 
 -- the lines of the text that is left, if any is
@@ -118,47 +116,42 @@ fault_at_first fault line is text = record {
   before = λ earlier below. absurd (omega arith);
 }
 
--- finding a package by its place
+-- finding a package
 
-at_cond : (entry : Entry) (table : ModuleTable) (test : Bool) (found : Option ℕ) → option_and_then (module_at (entry ∷ table)) (cond test (Some 0) (option_map (λ i. i + 1) found)) ≡ cond test (Some entry.module_name) (option_and_then (module_at table) found)
-at_cond entry table true found = refl
-at_cond entry table false None = refl
-at_cond entry table false (Some place) = rw (add-one place) refl
-
-module_from : (name : List ℕ) (table : ModuleTable) → option_and_then (module_at table) (position_from (has_package name) 0 table) ≡ module_of table name
-module_from name [] = refl
-module_from name (entry ∷ table) =
-    ap (λ o. option_and_then (module_at (entry ∷ table)) (cond (has_package name entry) (Some 0) o)) (position_from-shift (has_package name) 0 table)
-    ∙ at_cond entry table (has_package name entry) (position_from (has_package name) 0 table)
-    ∙ ap (λ o. cond (has_package name entry) (Some entry.module_name) o) (module_from name table)
-
-module_by_place : (name : List ℕ) (table : ModuleTable) (packages : Places) → ArePackages table packages → option_and_then (module_at table) (place_of packages name) ≡ module_of table name
-module_by_place name table packages are =
-    ap (option_and_then (module_at table)) (are.place name ∙ position_from-zero (has_package name) table) ∙ module_from name table
-
-pub module_at_place : (name : List ℕ) (table : ModuleTable) (packages : Places) (place : ℕ) (told : Option (List ℕ)) → ArePackages table packages → Some place ≡ place_of packages name → told ≡ module_at table place → told ≡ module_of table name
-module_at_place name table packages place told are found is = is ∙ ap (option_and_then (module_at table)) found ∙ module_by_place name table packages are
-
-pub module_nowhere : (name : List ℕ) (table : ModuleTable) (packages : Places) → ArePackages table packages → None ≡ place_of packages name → None ≡ module_of table name
-module_nowhere name table packages are found = ap (option_and_then (module_at table)) found ∙ module_by_place name table packages are
+pub module_found : (name : List ℕ) (entries : List (Vec ℕ Global × Vec ℕ Global))
+    → option_map (λ v. v.items) (lookup (λ key. bytes_eq name key.items) entries) ≡ module_of (map view_entry entries) name
+module_found name [] = refl
+module_found name (e ∷ es) =
+    by (bytes_eq name e.0.items) (module_found name es)
+    ∙ ap (λ b. cond b (Some e.1.items) (module_of (map view_entry es) name)) (nat_list_eq_equiv.symm name e.0.items)
+  where
+    by : (b : Bool) → option_map (λ v. v.items) (lookup (λ key. bytes_eq name key.items) es) ≡ module_of (map view_entry es) name
+        → option_map (λ v. v.items) (cond b (Some e.1) (lookup (λ key. bytes_eq name key.items) es)) ≡ cond b (Some e.1.items) (module_of (map view_entry es) name)
+    by true h = refl
+    by false h = h
 
 -- one more entry
-pub packages_push : (old new : List KeptEntry) (entry : KeptEntry) (packages packages' : Places) (place : ℕ) → ArePackages (map view_entry old) packages → PutsFirst packages packages' entry.«package» place → place ≡ length old → new ≡ old ++ entry ∷ [] → ArePackages (map view_entry new) packages'
-packages_push old new entry packages packages' place are puts is added =
-    let pushed : map view_entry new ≡ map view_entry old ++ view_entry entry ∷ [] = ap (map view_entry) added ∙ map_push view_entry old entry in
-    let place_is : place ≡ length (map view_entry old) = is ∙ sym (length-map old view_entry) in
-    record {
-      place = λ name.
-          let here : Bool = bytes_eq entry.«package» name in
-          puts name
-          ∙ or_cond here (place_of packages name) place
-          ∙ ap (λ o. or_else o (cond here (Some place) None)) (are.place name)
-          ∙ ap (λ n. or_else (position (has_package name) (map view_entry old)) (cond here (Some n) None)) place_is
-          ∙ sym (position-push (has_package name) (map view_entry old) (view_entry entry))
-          ∙ ap (position (has_package name)) (sym pushed);
-    }
-
-pub packages_pushed : (old mid new : List KeptEntry) (entry : KeptEntry) (packages packages' : Places) (name : List ℕ) (place : ℕ) → ArePackages (map view_entry old) packages → mid ≡ old → entry.«package» ≡ name → PutsFirst packages packages' name place → place ≡ length mid → new ≡ mid ++ entry ∷ [] → ArePackages (map view_entry new) packages'
-packages_pushed old mid new entry packages packages' name place are same named puts is added =
-    let puts_here : PutsFirst packages packages' entry.«package» place = subst (λ n. PutsFirst packages packages' n place) (sym named) puts in
-    packages_push old new entry packages packages' place are puts_here (is ∙ ap length same) (added ∙ ap (λ es. es ++ entry ∷ []) same)
+pub entry_pushed : (name wanted : List ℕ) (key value : Vec ℕ Global) (old new : List (Vec ℕ Global × Vec ℕ Global)) (table : ModuleTable)
+    → map view_entry old ≡ table → module_of table name ≡ None → key.items ≡ name → value.items ≡ wanted
+    → new ≡ insert_entry (λ a b. bytes_eq a.items b.items) old key value → map view_entry new ≡ table ++ entry_of name wanted ∷ []
+entry_pushed name wanted key value old new table same none is sets put =
+    ap (map view_entry) put ∙ all old (ap (λ t. module_of t name) same ∙ none)
+    ∙ ap (λ n. map view_entry old ++ entry_of n value.items ∷ []) is
+    ∙ ap (λ m. map view_entry old ++ entry_of name m ∷ []) sets
+    ∙ ap (λ t. t ++ entry_of name wanted ∷ []) same
+  where
+    all : (es : List (Vec ℕ Global × Vec ℕ Global)) → module_of (map view_entry es) name ≡ None
+        → map view_entry (insert_entry (λ a b. bytes_eq a.items b.items) es key value) ≡ map view_entry es ++ entry_of key.items value.items ∷ []
+    all [] e = refl
+    all (x ∷ xs) e =
+        by (λ h. all xs h) (bytes_eq x.0.items name) (bytes_eq key.items x.0.items)
+        (nat_list_eq_equiv.symm key.items x.0.items ∙ ap (bytes_eq x.0.items) is) e
+      where
+        by : (module_of (map view_entry xs) name ≡ None
+            → map view_entry (insert_entry (λ a b. bytes_eq a.items b.items) xs key value) ≡ map view_entry xs ++ entry_of key.items value.items ∷ [])
+            → (b c : Bool) → c ≡ b → cond b (Some x.1.items) (module_of (map view_entry xs) name) ≡ None
+            → map view_entry (cond c ((x.0, value) ∷ xs) (x ∷ insert_entry (λ a b. bytes_eq a.items b.items) xs key value))
+            ≡ view_entry x ∷ map view_entry xs ++ entry_of key.items value.items ∷ []
+        by f true c s h = absurd (let no : Some x.1.items ≡ None = h in cc)
+        by f false true s h = absurd (let no : true ≡ false = s in cc)
+        by f false false s h = ap (λ ts. view_entry x ∷ ts) (f h)

@@ -1,6 +1,6 @@
 -- The first place in a list that passes a test: one more item, and the item at that place.
-use Rattle.std.proofs.Common.{◌≡◌, ℕ, ◌+◌, ◌<◌, ◌≤◌, Bool, true, false, not, cond, ltb, List, [], ◌∷◌, ◌++◌, length, position, Option, Some, None, option_map, refl, ap, ◌∙◌, arith}
-use Rattle.std.specs.List.{position_or_len, position_from}
+use Rattle.std.proofs.Common.{◌≡◌, ℕ, ◌+◌, ◌<◌, ◌≤◌, Bool, true, false, not, cond, ltb, List, [], ◌∷◌, ◌++◌, length, position, Option, Some, None, refl, ◌∙◌, arith}
+use Rattle.std.specs.List.{position_or_len}
 use Rattle.std.proofs.lemmas.Bool.{lt-ltb, le-ltb, ltb-true, ltb-false, ne_eqb, eq-eqb}
 use Rattle.std.proofs.lemmas.List.{length_push}
 use Rattle.std.proofs.lemmas.List.Sums.{prefix_len-le-length}
@@ -40,16 +40,6 @@ pub or_cond : (test : Bool) (place : Option ℕ) (last : ℕ) → cond test (or_
 or_cond true place last = refl
 or_cond false None last = refl
 or_cond false (Some place) last = refl
-
-shift_cond : (test : Bool) (first : ℕ) (found : Option ℕ) → cond test (Some (first + 1)) (option_map (λ i. i + 1) found) ≡ option_map (λ i. i + 1) (cond test (Some first) found)
-shift_cond true first found = refl
-shift_cond false first found = refl
-
--- counting from one more
-pub position_from-shift : {X : Type 0} (test : X → Bool) (first : ℕ) (items : List X) → position_from test (first + 1) items ≡ option_map (λ i. i + 1) (position_from test first items)
-position_from-shift test first [] = refl
-position_from-shift test first (item ∷ items) =
-    ap (λ o. cond (test item) (Some (first + 1)) o) (position_from-shift test (first + 1) items) ∙ shift_cond (test item) first (position_from test (first + 1) items)
 
 -- the last place is never the lesser
 last_least : (passes : Bool) (place last : ℕ) (inside : Bool) → ltb place last ≡ inside → or_else (cond inside (Some place) None) (cond passes (Some last) None) ≡ cond passes (least (cond inside (Some place) None) (Some last)) (cond inside (Some place) None)

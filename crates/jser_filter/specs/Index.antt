@@ -7,7 +7,6 @@ use Rattle.jser_filter.specs.declared.places.Places.{Places}
 use Rattle.jser_filter.specs.declared.trie.Trie.{Trie}
 use Rattle.jser_filter.specs.Patterns.{NamePattern, below_package, in_package, prefix, exact}
 use Rattle.jser_filter.specs.Pieces.{Piece, empty_piece, limit_piece, pattern_piece, faulty_piece}
-use Rattle.jser_filter.specs.Tables.{Entry, ModuleTable}
 use Rattle.jser_filter.specs.Places.{place_of, or_else, KeepsPlaces}
 use Rattle.jser_filter.specs.Trie.{IsTrie, Keeps, first_of, begins, least}
 use Rattle.jser_filter.specs.Words.{letters, in_module, of_end, of_package, word_of}
@@ -103,11 +102,3 @@ abbrev pub first_by : Index → Option (List ℕ) → Option (List ℕ) → List
 first_by index found package_found name =
     least (least (place_of index.names name) (first_inside index.packages package_found))
     (least (first_of index.words (letters name)) (first_in index found package_found name))
-
--- the entry is that of this package
-abbrev pub has_package : List ℕ → Entry → Bool
-has_package name entry = bytes_eq entry.package_name name
-
--- the places of the packages of a table of modules
-pub record ArePackages (table : ModuleTable) (packages : Places) : Type 0 where
-  pub place : (name : List ℕ) → place_of packages name ≡ position (has_package name) table

@@ -1,11 +1,11 @@
 -- Tables of modules: lines `package=module`, separated by line feeds. White space is part of a line, and an
 -- empty line says nothing.
-use Rattle.std.specs.Prelude.{ℕ, ◌≡◌, ◌<◌, length, Bool, if◌then◌else◌, List, [], ◌∷◌, map, take, slice_get, Option, Some, None, option_and_then, option_map, is_some}
+use Rattle.std.specs.Prelude.{ℕ, ◌≡◌, ◌<◌, length, Bool, if◌then◌else◌, List, [], ◌∷◌, map, take, slice_get, Option, Some, None, option_and_then, option_map, is_some, Vec}
+use Rattle.std.specs.Global.{Global}
 use Rattle.std.specs.Str.{bytes_eq}
 use Rattle.jser_filter.specs.declared.fault.ModulesCause.{ModulesCause}
 use Rattle.jser_filter.specs.declared.fault.ModulesCause.TheVariants as cause
 use Rattle.jser_filter.specs.declared.fault.ModulesFault.{ModulesFault}
-use Rattle.jser_filter.specs.declared.modules.Entry.{Entry as KeptEntry}
 use Rattle.jser_filter.specs.Cuts.{cut, split_at_each}
 use Rattle.jser_filter.specs.Patterns.{package_of}
 
@@ -22,10 +22,6 @@ abbrev pub module_of : ModuleTable → List ℕ → Option (List ℕ)
 module_of [] package_name = None
 module_of (entry ∷ table) package_name =
     if bytes_eq entry.package_name package_name then Some entry.module_name else module_of table package_name
-
--- the module of the entry at a place
-abbrev pub module_at : ModuleTable → ℕ → Option (List ℕ)
-module_at table place = option_map (λ entry. entry.module_name) (slice_get table place)
 
 abbrev pub entry_of : List ℕ → List ℕ → Entry
 entry_of package_name module_name = record { package_name = package_name; module_name = module_name }
@@ -76,8 +72,8 @@ abbrev pub line_fault : List Line → ℕ → Option ModulesCause
 line_fault lines number = option_and_then (fault_in (table_of (take number lines))) (slice_get lines number)
 
 -- a kept entry
-abbrev pub view_entry : KeptEntry → Entry
-view_entry entry = record { package_name = entry.package; module_name = entry.module }
+abbrev pub view_entry : Vec ℕ Global × Vec ℕ Global → Entry
+view_entry entry = record { package_name = entry.0.items; module_name = entry.1.items }
 
 -- the sides of a line that has them
 abbrev pub view_sides : Option (List ℕ × List ℕ) → Line

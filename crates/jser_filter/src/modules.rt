@@ -2,43 +2,30 @@
 ghost use Rattle.std.specs.Prelude.{List, ◌≡◌, ◌==◌, ◌≢◌, ℕ, ◌<◌, [], length, option_map, option_and_then, map, None, IfOk, IfErr, OnOk, ◌++◌, ◌∷◌};
 ghost use Rattle.jser_prim.specs.ModifiedUtf8.{utf16_units};
 ghost use Rattle.jser_filter.specs.Cuts.{cut, part_now, both_now};
-ghost use Rattle.jser_filter.specs.Tables.{module_of, module_at, entry_of, view_entry, view_sides, read_sides, read_line, lines_of, table_of, fault_in, IsLineCause, AreSoundLines, IsFirstLineFault};
+ghost use Rattle.jser_filter.specs.Tables.{module_of, entry_of, view_sides, read_sides, read_line, lines_of, table_of, fault_in, IsLineCause, AreSoundLines, IsFirstLineFault};
 
 use crate::cut::{cut, next_part};
 use crate::fault::{ModulesCause, ModulesFault};
-use crate::places::Places;
-use crate::units::Units;
+use indexmap::IndexMap;
 use jser_prim::units_of;
 use std::alloc::{AllocError, Global};
 use std::fmt;
 use std::marker::Model;
 
-/// A package and its module.
-#[derive(Drop)]
-pub(crate) struct Entry {
-    pub(crate) package: Units,
-    pub(crate) module: Units,
-}
-
 /// A table from packages to modules.
 #[derive(Drop)]
 pub struct Modules {
-    entries: Vec<Entry>,
-    packages: Places,
+    /// The module of each package, in the order of the lines.
+    entries: IndexMap<Vec<u16>, Vec<u16>>,
 }
 
 impl Model for Modules {
     ghost use Rattle.std.specs.Prelude.{map};
-    ghost use Rattle.jser_filter.specs.Tables.{ModuleTable};
+    ghost use Rattle.jser_filter.specs.Tables.{ModuleTable, view_entry};
 
     ghost Value = { ModuleTable };
 
-    ghost use Rattle.jser_filter.specs.Tables.{view_entry};
-    ghost use Rattle.jser_filter.specs.Index.{ArePackages};
-
-    ghost view = { λ a. map view_entry a.entries.items };
-
-    ghost invariant = { λ a. ArePackages (map view_entry a.entries.items) a.packages };
+    ghost view = { λ a. map view_entry a.entries.entries };
 }
 
 const EQUALS: u16 = 0x3D;
@@ -60,8 +47,7 @@ impl Modules {
         ensures { result ≡ [] }
     {
         Modules {
-            entries: Vec::new(alloc),
-            packages: Places::new(alloc),
+            entries: IndexMap::new(alloc),
         }
     }
 
@@ -89,13 +75,15 @@ impl Modules {
         self.entries.is_empty()
     }
 
-    /// The module of a package, if the table has it. It allocates nothing.
-    #[tactic(auto, using(crate::proofs::ModulesLemmas::module_at_place, crate::proofs::ModulesLemmas::module_nowhere))]
+    /// The module of a package, if the table has it. It allocates nothing. Where there are no packages, none is hashed.
     pub fn get(&self, package: &[u16]) -> Option<&[u16]>
         ensures { option_map part_now result ≡ module_of self.now «package».now }
     {
-        match self.packages.get(package) {
-            Some(place) => module_at(&self.entries, place),
+        if self.entries.is_empty() {
+            return None;
+        }
+        match self.entries.get(package) {
+            Some(module) => Some(module.as_slice()),
             None => None,
         }
     }
@@ -133,27 +121,15 @@ impl Modules {
 
     /// Adds an entry.
     fn add(&mut self, alloc: Global, package: &[u16], module: &[u16]) -> Result<(), AllocError>
+        requires { module_of self.old «package».now ≡ None }
         ensures { OnOk result (self.new ≡ self.old ++ entry_of «package».now «module».now ∷ []) }
     {
-        let entry = Entry {
-            package: Units::copy_of(alloc, package)?,
-            module: Units::copy_of(alloc, module)?,
-        };
-        self.entries.reserve(1)?;
-        let place = self.entries.len();
-        self.packages.add(alloc, package, place)?;
-        self.entries.push_reserved(entry);
-        Ok(())
-    }
-}
-
-/// The module of the entry at this place.
-fn module_at(entries: &[Entry], place: usize) -> Option<&[u16]>
-    ensures { option_map part_now result ≡ module_at (map view_entry entries.now) place }
-{
-    match entries.get(place) {
-        Some(entry) => Some(entry.module.as_slice()),
-        None => None,
+        let package = package.to_vec(alloc)?;
+        let module = module.to_vec(alloc)?;
+        match self.entries.insert(package, module) {
+            Ok(_) => Ok(()),
+            Err(_) => Err(AllocError),
+        }
     }
 }
 

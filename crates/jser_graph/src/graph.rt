@@ -19,15 +19,15 @@ use std::alloc::Global;
 use std::marker::Model;
 
 /// A Java object serialization stream, by its handles: what each of them names, the units of every string, the checked
-/// names, the bytes as they were read, which are lent to it, the text of `show`, and the tree.
+/// names, a copy of the bytes as they were read, the text of `show`, and the tree.
 ///
 /// It holds an `Index`, which says what that takes. It holds no tree: `contents` makes one.
 #[derive(Drop)]
-pub struct Graph<'b> {
-    index: Index<'b>,
+pub struct Graph {
+    index: Index<Vec<u8>>,
 }
 
-impl<'b> Model for Graph<'b> {
+impl Model for Graph {
     ghost use Rattle.jser_index.specs.Graphs.{GraphView};
 
     ghost Value = { GraphView };
@@ -35,7 +35,7 @@ impl<'b> Model for Graph<'b> {
     ghost view = { λ a. a.index };
 }
 
-impl<'b> Graph<'b> {
+impl Graph {
     /// Reads bytes that are one stream within the greatest limits: at most 2^40 bytes, 65,535 levels, and 2,139,226,112
     /// handles in an epoch. No class names are refused.
     ///
@@ -43,11 +43,14 @@ impl<'b> Graph<'b> {
     ///
     /// `Refused` where the bytes are no such stream, with the first fault. `OutOfMemory` where memory ran out. Never
     /// `Spent`.
-    pub fn read(alloc: Global, bytes: &'b [u8]) -> Result<Graph<'b>, Stop>
+    pub fn read(alloc: Global, bytes: &[u8]) -> Result<Graph, Stop>
         ensures accepted { IfOk result (StandsForSome bytes.now) }
         ensures refused { IfErr result (IfRefused (IsRefused bytes.now)) }
     {
-        match Index::read(alloc, bytes) {
+        let Ok(copy) = bytes.to_vec(alloc) else {
+            return Err(Stop::OutOfMemory);
+        };
+        match Index::read(alloc, copy) {
             Ok(index) => Ok(Graph { index }),
             Err(stop) => Err(stop),
         }

@@ -1,5 +1,5 @@
 -- What a first walk has found, as a graph.
-use Rattle.std.proofs.Common.{◌≡◌, ℕ, List, ◌∙◌, ap, refl, Ok, Err}
+use Rattle.std.proofs.Common.{◌≡◌, ℕ, List, ◌∙◌, ap, refl, subst, Ok, Err}
 use Rattle.jser_shown.specs.Finding.{Finding}
 use Rattle.jser_shown.specs.Nodes.{Node as ToldNode}
 use Rattle.jser_shown.specs.Owners.{OwnerNode as ToldOwner}
@@ -9,6 +9,11 @@ use Rattle.jser_reader.specs.declared.Totals.{Totals}
 use Rattle.jser_index.specs.Listed.{Listed, all_lists}
 use Rattle.jser_index.specs.Reading.{IsRefused, Surveys}
 use Rattle.jser_index.specs.Graphs.{StandsForSome, IfRefused}
+
+-- the bytes that are held are those that were looked through
+pub surveyed : (given bytes : List ℕ) (survey : Finding) (totals : Totals) → given ≡ bytes → Surveys given (Ok (record { survey = survey; totals = totals }))
+    → Surveys bytes (Ok (record { survey = survey; totals = totals }))
+surveyed given bytes survey totals same h = subst (λ bs. Surveys bs (Ok (record { survey = survey; totals = totals }))) same h
 
 pub stands_for : (bytes : List ℕ) (survey : Finding) (totals : Totals) (nodes : Listed ToldNode) (owners : List ToldOwner) (names : List (List ℕ))
     → Surveys bytes (Ok (record { survey = survey; totals = totals })) → nodes ≡ record { ended = survey.ended; last = survey.nodes } → owners ≡ survey.owners

@@ -12,25 +12,26 @@ use jser_grammar::wire::BASE_WIRE_HANDLE;
 use jser_printer::OwnerNode;
 use jser_reader::{Stop, Totals};
 use std::alloc::Global;
+use std::convert::AsSlice;
 use std::marker::Model;
 
 /// A Java object serialization stream, by its handles: what each of them names, the units of every string, the checked
-/// names, and the bytes as they were read, which are lent to it.
+/// names, and the bytes as they were read: a slice that is lent to it, or a vector that it holds.
 ///
 /// It holds 12 bytes for each handle, 8 for each object, array, enum constant and class object, 8 for each
 /// checked name, each reset and each string that has a list of its own, and two for each unit of a string or a checked name;
 /// besides, room that is made ready for fewer than 163,840 units, and what each vector holds in reserve as it grows. It holds
 /// no tree, and nothing in it goes as deep as the stream.
 #[derive(Drop)]
-pub struct Index<'b> {
-    pub(crate) bytes: &'b [u8],
+pub struct Index<B: AsSlice<u8>> {
+    pub(crate) bytes: B,
     nodes: Nodes,
     names: Texts,
     pub(crate) owners: Vec<OwnerNode>,
     pub(crate) totals: Totals,
 }
 
-impl<'b> Model for Index<'b> {
+impl<B: AsSlice<u8>> Model for Index<B> {
     ghost use Rattle.jser_printer.specs.Given.{view_nodes};
     ghost use Rattle.jser_index.specs.Graphs.{GraphView, IsGraph};
     ghost use Rattle.jser_index.specs.Listed.{all_lists};
@@ -38,7 +39,7 @@ impl<'b> Model for Index<'b> {
     ghost Value = { GraphView };
 
     ghost view = { λ a. record {
-      bytes = a.bytes.now;
+      bytes = B.items a.bytes;
       nodes = all_lists a.nodes;
       names = a.names;
       owners = view_nodes a.owners.items;
@@ -46,7 +47,7 @@ impl<'b> Model for Index<'b> {
     } };
 
     ghost invariant = { λ a. IsGraph (record {
-      bytes = a.bytes.now;
+      bytes = B.items a.bytes;
       nodes = all_lists a.nodes;
       names = a.names;
       owners = view_nodes a.owners.items;
@@ -54,7 +55,7 @@ impl<'b> Model for Index<'b> {
     }) };
 }
 
-impl<'b> Index<'b> {
+impl<B: AsSlice<u8>> Index<B> {
     /// Reads bytes that are one stream within the greatest limits: at most 2^40 bytes, 65,535 levels, and 2,139,226,112
     /// handles in an epoch. No class names are refused.
     ///
@@ -63,11 +64,13 @@ impl<'b> Index<'b> {
     /// `Refused` where the bytes are no such stream, with the first fault. `OutOfMemory` where memory ran out. Never
     /// `Spent`.
     #[tactic(auto, using(crate::proofs::GraphLemmas::stands_for, crate::proofs::GraphLemmas::is_refused))]
-    pub fn read(alloc: Global, bytes: &'b [u8]) -> Result<Index<'b>, Stop>
-        ensures accepted { IfOk result (StandsForSome bytes.now) }
-        ensures refused { IfErr result (IfRefused (IsRefused bytes.now)) }
+    pub fn read(alloc: Global, bytes: B) -> Result<Index<B>, Stop>
+    where
+        B: Drop,
+        ensures accepted { IfOk result (StandsForSome (B.items bytes)) }
+        ensures refused { IfErr result (IfRefused (IsRefused (B.items bytes))) }
     {
-        let Found { survey, totals } = survey(alloc, bytes)?;
+        let Found { survey, totals } = survey(alloc, bytes.as_slice())?;
         let found = survey.into_found();
         Ok(Index {
             bytes,

@@ -8,6 +8,7 @@ use crate::graph::Index;
 use jser_prim::{Sink, give_all};
 use jser_reader::Totals;
 use std::alloc::Global;
+use std::convert::AsSlice;
 use thiserror::Error;
 
 /// Why what was asked for did not go out whole.
@@ -27,12 +28,12 @@ pub enum GraphFault {
     },
 }
 
-impl<'b> Index<'b> {
+impl<B: AsSlice<u8>> Index<B> {
     /// The bytes of the stream, as they were read.
     pub fn bytes(&self) -> &[u8]
         ensures { result.now ≡ self.now.bytes }
     {
-        self.bytes
+        self.bytes.as_slice()
     }
 
     /// The counts of the stream.
@@ -55,8 +56,9 @@ impl<'b> Index<'b> {
         ensures failed { OnErr result (W.has_failed sink.new ≡ true) }
         ensures stands { IsGraph self.now }
     {
-        match give_all(sink, self.bytes) {
-            Ok(()) => Ok(self.bytes.len() as u64),
+        let bytes = self.bytes.as_slice();
+        match give_all(sink, bytes) {
+            Ok(()) => Ok(bytes.len() as u64),
             Err(fault) => Err(GraphFault::Write {
                 written: fault.given as u64,
             }),

@@ -18,8 +18,9 @@ use jser_printer::{Plain, Printer, Token};
 use jser_reader::{FeedFault, Item, OpenGate, Reader, Visit, Whereabouts};
 use jser_shown::laws::{one_more, tells_fronts, told};
 use std::alloc::{AllocError, Global};
+use std::convert::AsSlice;
 
-impl<'b> Index<'b> {
+impl<B: AsSlice<u8>> Index<B> {
     /// Writes the text of `show`, and returns its length, which is exact up to 2^64 - 1 and stays there. With `values` a raw
     /// value is followed by what it means, in brackets.
     ///
@@ -81,7 +82,7 @@ impl<'b> Index<'b> {
             &mut reader,
             &mut printer,
             &mut units,
-            self.bytes,
+            self.bytes.as_slice(),
         )
     }
 }

@@ -15,7 +15,7 @@ pub fn printable(alloc: Global, text: &str) -> Result<String, AllocError>
     }
     let mut printed = String::new(alloc);
     'units: for unit in text.encode_utf16() {
-        push_unit(&mut printed, unit)?;
+        push_unit(alloc, &mut printed, unit)?;
     }
     Ok(printed)
 }
@@ -35,8 +35,8 @@ fn is_printed(byte: u8) -> bool
 }
 
 /// Appends a unit.
-#[tactic(auto, using(crate::proofs::PrintableLemmas::one_more))]
-fn push_unit(printed: &mut String, unit: u16) -> Result<(), AllocError>
+#[tactic(auto, using(crate::proofs::PrintableLemmas::hex_more))]
+fn push_unit(alloc: Global, printed: &mut String, unit: u16) -> Result<(), AllocError>
     ensures { OnOk result (is_printable (string_bytes printed.old) ≡ true → is_printable (string_bytes printed.new) ≡ true) }
 {
     if unit == 0x0A || (0x20..=0x7E).contains(&unit) {
@@ -44,23 +44,8 @@ fn push_unit(printed: &mut String, unit: u16) -> Result<(), AllocError>
     }
     push_byte(printed, b'\\')?;
     push_byte(printed, b'u')?;
-    push_digit(printed, unit >> 12)?;
-    push_digit(printed, unit >> 8)?;
-    push_digit(printed, unit >> 4)?;
-    push_digit(printed, unit)
-}
-
-/// Appends the hexadecimal digit of the last four bits.
-fn push_digit(printed: &mut String, bits: u16) -> Result<(), AllocError>
-    ensures { OnOk result (is_printable (string_bytes printed.old) ≡ true → is_printable (string_bytes printed.new) ≡ true) }
-{
-    let value = (bits % 16) as u8;
-    let digit = if value < 10 {
-        b'0' + value
-    } else {
-        b'a' + value - 10
-    };
-    push_byte(printed, digit)
+    let digits = hex::encode(alloc, unit.to_be_bytes())?;
+    printed.push_str(digits.as_str())
 }
 
 /// Appends a character from 20 to 7E, or a line feed.

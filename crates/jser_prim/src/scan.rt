@@ -57,6 +57,19 @@ impl TextScan {
         }
     }
 
+    /// Whether the whole text was accepted. It never is after a fault.
+    #[tactic(auto, using(crate::proofs::ScanLemmas::accepts_text))]
+    pub fn is_done(&self) -> bool
+        ensures done { (len : ℕ) (bytes units : List ℕ) → HasAccepted len bytes units self.now
+            → (IsTrue result ↔ (length bytes ≡ len)) }
+        ensures text { (len : ℕ) (bytes units : List ℕ) → HasAccepted len bytes units self.now
+            → IsTrue result → bytes ≡ modified_utf8 units }
+        ensures failed { self.now.has_failed ≡ true → result ≡ false }
+        ensures left { IsTrue result ↔ (self.now.left ≡ 0) }
+    {
+        self.left == 0
+    }
+
     /// How many bytes are still to come: 0 exactly where the whole text was accepted, and never after a fault.
     #[tactic(auto, using(crate::proofs::ScanLemmas::accepts_text))]
     pub fn left(&self) -> u64

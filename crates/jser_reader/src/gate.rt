@@ -35,8 +35,7 @@ pub struct Limits {
 
 /// Limits, and an answer to each checked name: that of each plain descriptor, and each interface of a proxy.
 ///
-/// Each answer depends on the gate and the question alone. A gate says `limits` and `name`; the other calls are one limit
-/// each.
+/// Each answer depends on the gate and the question alone. `limits` is made of the other calls.
 pub trait Gate {
     /// What the gate is, as the definitions of refusals see it.
     ghost told: { Self → ToldGate };
@@ -46,43 +45,37 @@ pub trait Gate {
         requires { name_kind name.now ≢ malformed_name }
         ensures { view_answer result ≡ (told self.now).answer name.now };
 
-    /// Its limits.
-    fn limits(&self) -> Limits
-        ensures { AreLimitsOf (told self.now) result };
-
-    /// The greatest number of bytes.
+    /// The greatest number of bytes: at most 2^40.
     fn max_bytes(&self) -> u64
-        ensures { result ≡ (told self.now).bytes }
-    {
-        self.limits().bytes
-    }
+        ensures { result ≡ (told self.now).bytes };
 
-    /// The greatest depth of a place.
+    /// The greatest depth of a place: at most 65,535.
     fn max_depth(&self) -> u32
-        ensures { result ≡ (told self.now).depth }
-    {
-        self.limits().depth
-    }
+        ensures { result ≡ (told self.now).depth };
 
-    /// The greatest number of places.
+    /// The greatest number of places: at most 2^63 - 1.
     fn max_refs(&self) -> u64
-        ensures { result ≡ (told self.now).refs }
-    {
-        self.limits().refs
-    }
+        ensures { result ≡ (told self.now).refs };
 
-    /// The greatest length of an array.
+    /// The greatest length of an array: at most 2^31 - 1.
     fn max_array(&self) -> u32
-        ensures { result ≡ (told self.now).array }
-    {
-        self.limits().array
-    }
+        ensures { result ≡ (told self.now).array };
 
-    /// The greatest number of handles in an epoch.
+    /// The greatest number of handles in an epoch: at most 2,139,226,112.
     fn max_handles(&self) -> u32
-        ensures { result ≡ (told self.now).handles }
+        ensures { result ≡ (told self.now).handles };
+
+    /// All its limits.
+    fn limits(&self) -> Limits
+        ensures { AreLimitsOf (told self.now) result }
     {
-        self.limits().handles
+        Limits {
+            bytes: self.max_bytes(),
+            depth: self.max_depth(),
+            refs: self.max_refs(),
+            array: self.max_array(),
+            handles: self.max_handles(),
+        }
     }
 
     /// The limits are at most the caps.
@@ -100,14 +93,24 @@ impl Gate for OpenGate {
         Answer::Pass
     }
 
-    fn limits(&self) -> Limits {
-        Limits {
-            bytes: MOST_BYTES,
-            depth: MOST_DEPTH,
-            refs: MOST_REFS,
-            array: MOST_ARRAY,
-            handles: MOST_HANDLES,
-        }
+    fn max_bytes(&self) -> u64 {
+        MOST_BYTES
+    }
+
+    fn max_depth(&self) -> u32 {
+        MOST_DEPTH
+    }
+
+    fn max_refs(&self) -> u64 {
+        MOST_REFS
+    }
+
+    fn max_array(&self) -> u32 {
+        MOST_ARRAY
+    }
+
+    fn max_handles(&self) -> u32 {
+        MOST_HANDLES
     }
 
     ghost use Rattle.std.proofs.Common.{rules};

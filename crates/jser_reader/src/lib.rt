@@ -1,6 +1,19 @@
 //! The reader: takes a Java object serialization stream in pieces of any sizes, and lends its tokens one by one
 //! (Java Object Serialization Specification, chapter 6). It keeps no tree and no text but the one class name
 //! that is being read.
+//!
+//! ```rust
+//! use jser_reader::{OpenGate, Reader, Stop, Totals};
+//! use std::alloc::Global;
+//!
+//! /// The counts of a stream that comes in two pieces.
+//! fn counts_of(alloc: Global, first: &[u8], second: &[u8]) -> Result<Totals, Stop> {
+//!     let mut reader = Reader::new(alloc, OpenGate);
+//!     reader.skip(first)?;
+//!     reader.skip(second)?;
+//!     reader.finish()
+//! }
+//! ```
 #![tactic(auto)]
 
 mod cut;

@@ -217,6 +217,14 @@ impl<G: Gate> Reader<G> {
         &self.gate
     }
 
+    /// The units of the class name that is being read, or was read last. After `ClassRejected` and `ClassUnmatched` it is the
+    /// name that the gate did not let pass. Takes no memory.
+    pub fn class_name(&self) -> &[u16]
+        ensures { result.now ≡ self.now.machine.name }
+    {
+        self.machine.class_units()
+    }
+
     /// How many frames are open: arrays, objects and descriptors. The layers of descriptors that are kept beside them
     /// are at most one more.
     pub fn open_frames(&self) -> u64

@@ -1,6 +1,6 @@
--- What is written of all records of an input.
-use Rattle.std.proofs.Common.{◌≡◌, ◌≢◌, ◌⊎◌, ℕ, ◌<◌, Bool, true, false, List, [], Option, Some, None, Result, Ok, Err, inl, inr, refl, sym, ap, subst, ◌∙◌, append-nil}
-use Rattle.std.specs.Prelude.{IfOk, MatchResult, OnOk}
+-- What is written of the records of an input.
+use Rattle.std.proofs.Common.{◌≡◌, ◌≢◌, ◌⊎◌, ℕ, Bool, true, false, List, [], Option, Some, None, Result, Ok, Err, inl, inr, refl, sym, ap, subst, ◌∙◌, append-nil}
+use Rattle.std.specs.Prelude.{OnOk}
 use Rattle.std.specs.Io.KnownBytes.{Appends}
 use Rattle.jser_prim.specs.Outgoing.{Outgoing, SinkState, Puts}
 use Rattle.jser_prim.proofs.OutgoingLemmas.{nothing, went_out}
@@ -8,7 +8,7 @@ use Rattle.jser_prim.proofs.GiveLemmas.{appends_none}
 use Rattle.jser_printer.specs.Says.{Says}
 use Rattle.jser_scan.specs.declared.Rules.{Rules}
 use Rattle.jser_scan.specs.declared.Tally.{Tally}
-use Rattle.jser_scan.specs.Tallies.{no_files, status_of}
+use Rattle.jser_scan.specs.Tallies.{no_files}
 use Rattle.jser_records.specs.declared.clerk.Clerk.{Clerk}
 use Rattle.jser_records.specs.declared.layout.Lines.{Lines}
 use Rattle.jser_records.specs.declared.layout.Shape.{Shape}
@@ -19,22 +19,21 @@ use Rattle.jser_records.specs.Arriving.{Arriving, IsOver, ahead}
 use Rattle.jser_records.specs.Records.{AllSizedBy, AreRecords, RecordsBy, RecordsFront, RecordsGo}
 use Rattle.jser_records.specs.Sized.{At, at_line, at_loss}
 use Rattle.jser_records.specs.Held.{Terms, terms_of}
-use Rattle.jser_records.specs.Inputs.{AreAll, IsFine, Reads, Written, Wrote, terms_in}
-use Rattle.jser_records.specs.Told.{Event, Quiet, SaysAll, all_counted, all_put}
-use Rattle.jser_records.proofs.LossLemmas.{records_lost, status_unread}
+use Rattle.jser_records.specs.Inputs.{AreAll, IsFine, Reads, Wrote, terms_in}
+use Rattle.jser_records.specs.Told.{Event, Quiet, SaysAll, all_counted, all_put, all_told}
 use Rattle.jser_records.proofs.RoomLemmas.{ahead_over}
 use Rattle.jser_records.proofs.ToldLemmas.{says_all}
 
 -- ---- the records of an input
 
 -- it may be said of less
-less_whole : (layout : Shape) (terms : Terms) (input : Option (List ℕ)) (events : List Event) (whole other : At → Type 0)
+pub less_whole : (layout : Shape) (terms : Terms) (input : Option (List ℕ)) (events : List Event) (whole other : At → Type 0)
     → ((bytes rest : List ℕ) (to : At) → AreRecords layout terms at_line bytes events to rest → other to → whole to) → AreAll layout terms input events whole → AreAll layout terms input events other
 less_whole layout terms None events whole other so are = tt
 less_whole layout terms (Some bytes) events whole other so (to, rest, are, ends) = (to, rest, are, λ w. ends (so bytes rest to are w))
 
 -- before anything was read
-none_so_far : (layout : Shape) (terms : Terms) (input : Option (List ℕ)) (whole : At → Type 0) → (whole at_line → ⊥) → AreAll layout terms input [] whole
+pub none_so_far : (layout : Shape) (terms : Terms) (input : Option (List ℕ)) (whole : At → Type 0) → (whole at_line → ⊥) → AreAll layout terms input [] whole
 none_so_far layout terms None whole not = tt
 none_so_far layout terms (Some bytes) whole not = (at_line, bytes, (refl, refl), λ w. absurd (not w))
 
@@ -98,22 +97,21 @@ unbroken old new p q bytes begins puts on false is = refl
 unbroken old new p q bytes begins puts on true is =
     let off : q.failed ≡ true = (puts.going (ap (λ o. o.failed) begins)).fault is in absurd (cc)
 
+bytes_out : (old new : Outgoing) (p q : SinkState) (bytes : List ℕ) → old ≡ nothing → Puts old new p q bytes → (new.failed ≡ false → new.waiting ≡ []) → q.failed ≡ false
+    → Appends p.gone_out q.gone_out bytes
+bytes_out old new p q bytes begins puts empty on =
+    let fine : new.failed ≡ false = unbroken old new p q bytes begins puts on new.failed refl in (went_out old new p q bytes begins puts fine empty).0
+
 put_all : (old new : Outgoing) (p q : SinkState) (text : List ℕ → List ℕ) → old ≡ nothing → Says old new p q text → (new.failed ≡ false → new.waiting ≡ []) → q.failed ≡ false
     → Appends p.gone_out q.gone_out (text [])
 put_all old new p q text begins says empty on =
-    let fine : new.failed ≡ false = unbroken old new p q says.bytes begins says.puts on new.failed refl in
-    subst (Appends p.gone_out q.gone_out) (sym (says.is [] ∙ append-nil says.bytes)) (went_out old new p q says.bytes begins says.puts fine empty).0
+    subst (Appends p.gone_out q.gone_out) (sym (says.is [] ∙ append-nil says.bytes)) (bytes_out old new p q says.bytes begins says.puts empty on)
 
-tallies : (result : Result Tally Trouble) (now before : Tally) (events : List Event) → IfOk result (λ tally. tally ≡ now) → now ≡ all_counted before events → before ≡ no_files
-    → IfOk result (λ tally. tally ≡ all_counted no_files events)
-tallies (Ok tally) now before events is counts none = is ∙ counts ∙ ap (λ z. all_counted z events) none
-tallies (Err trouble) now before events is counts none = tt
-
-pub wrote : (asked : Asked) (rules : Rules) (input : Option (List ℕ)) (old new : Clerk) (p q s t : SinkState) (result : Result Tally Trouble) → old.how ≡ asked.how → old.passes ≡ asked.pass
-    → old.number ≡ 0 → old.tally ≡ no_files → old.output ≡ nothing → terms_of old.current ≡ terms_in asked rules
-    → Reads asked.layout.shape old new input p q s t (IsFine result) → (new.output.failed ≡ false → new.output.waiting ≡ []) → IfOk result (λ tally. tally ≡ new.tally)
-    → Wrote asked rules input p q result
-wrote asked rules input old new p q s t result is_how is_on zeroth none begins under reads empty tally = record {
+pub wrote : (asked : Asked) (rules : Rules) (input : Option (List ℕ)) (old new : Clerk) (p q s t : SinkState) (result : Result (Unit {0}) Trouble) (tally : Tally) → old.how ≡ asked.how
+    → old.passes ≡ asked.pass → old.number ≡ 0 → old.tally ≡ no_files → old.output ≡ nothing → old.faults ≡ nothing → terms_of old.current ≡ terms_in asked rules
+    → Reads asked.layout.shape old new input p q s t (IsFine result) → (new.output.failed ≡ false → new.output.waiting ≡ []) → (new.faults.failed ≡ false → new.faults.waiting ≡ [])
+    → tally ≡ new.tally → Wrote asked rules input p q s t result tally
+wrote asked rules input old new p q s t result tally is_how is_on zeroth none begins silent under reads empty told is = record {
   events = reads.events;
   put =
       λ fine.
@@ -121,57 +119,24 @@ wrote asked rules input old new p q s t result is_how is_on zeroth none begins u
       (subst (λ o. Appends p.gone_out q.gone_out (all_put old.how o 0 reads.events [])) is_on
       (subst (λ n. Appends p.gone_out q.gone_out (all_put old.how old.passes n reads.events [])) zeroth
       (put_all old.output new.output p q (λ k. all_put old.how old.passes old.number reads.events k) begins reads.says.output empty fine)));
-  tally = tallies result new.tally old.tally reads.events tally reads.says.tally none;
+  told = reads.says.faults.bytes;
+  tells =
+      λ k.
+      ap (λ h. all_told h asked.pass 0 reads.events k) (sym is_how) ∙ ap (λ o. all_told old.how o 0 reads.events k) (sym is_on)
+      ∙ ap (λ n. all_told old.how old.passes n reads.events k) (sym zeroth) ∙ reads.says.faults.is k;
+  went = λ fine. bytes_out old.faults new.faults s t reads.says.faults.bytes silent reads.says.faults.puts told fine;
+  tally_is = is ∙ reads.says.tally ∙ ap (λ z. all_counted z reads.events) none;
   are = subst (λ t. AreAll asked.layout.shape t input reads.events (λ to. IsFine result × (to ≢ at_loss))) under reads.are;
 }
 
 -- nothing was read
-pub wrote_none : (asked : Asked) (rules : Rules) (input : Option (List ℕ)) (p : SinkState) (trouble : Trouble) → Wrote asked rules input p p (Err trouble)
-wrote_none asked rules input p trouble =
-    record { events = []; put = λ fine. appends_none p.gone_out; tally = tt; are = none_so_far asked.layout.shape (terms_in asked rules) input (λ to. ⊥ × (to ≢ at_loss)) (λ w. w.0) }
-
-pub written_failed : (asked : Asked) (rules : Rules) (input : Option (List ℕ)) (p q : SinkState) (result : Result Tally Trouble) (status : ℕ) → Wrote asked rules input p q result → status ≡ 3
-    → Written asked rules input p q status
-written_failed asked rules input p q result status w is = record {
-  events = w.events;
-  put = w.put;
-  status = inl is;
-  are = less_whole asked.layout.shape (terms_in asked rules) input w.events (λ to. IsFine result × (to ≢ at_loss)) (λ to. status ≢ 3) (λ bytes rest to are not. absurd (not is)) w.are;
-}
-
-status_by : (result : Result Tally Trouble) (status : ℕ) (events : List Event) → IfOk result (λ tally. tally ≡ all_counted no_files events)
-    → MatchResult result (λ tally. status ≡ status_of tally) (λ trouble. status ≡ 3) → (status ≡ 3) ⊎ (status ≡ status_of (all_counted no_files events))
-status_by (Ok t) status events tally is = inr (is ∙ ap status_of tally)
-status_by (Err trouble) status events tally is = inl is
-
-fine_by : (result : Result Tally Trouble) (status : ℕ) → MatchResult result (λ tally. status ≡ status_of tally) (λ trouble. status ≡ 3) → status ≢ 3 → IsFine result
-fine_by (Ok t) status is not = tt
-fine_by (Err trouble) status is not = not is
-
-lost_status : (status : ℕ) (events : List Event) → (status ≡ 3) ⊎ (status ≡ status_of (all_counted no_files events)) → 0 < (all_counted no_files events).unread → status ≡ 3
-lost_status status events (inl is) some = is
-lost_status status events (inr is) some = is ∙ status_unread (all_counted no_files events) some
-
-pub written_by : (asked : Asked) (rules : Rules) (input : Option (List ℕ)) (p q : SinkState) (result : Result Tally Trouble) (status : ℕ) → Wrote asked rules input p q result
-    → MatchResult result (λ tally. status ≡ status_of tally) (λ trouble. status ≡ 3) → Written asked rules input p q status
-written_by asked rules input p q result status w is = record {
-  events = w.events;
-  put = w.put;
-  status = status_by result status w.events w.tally is;
-  are =
-      less_whole asked.layout.shape (terms_in asked rules) input w.events (λ to. IsFine result × (to ≢ at_loss)) (λ to. status ≢ 3)
-      (λ bytes rest to are not. (
-        fine_by result status is not,
-        λ lost. not (lost_status status w.events (status_by result status w.events w.tally is) (records_lost asked.layout.shape (terms_in asked rules) at_line to bytes rest w.events no_files are lost (λ same. absurd (cc)))),
-      ))
-      w.are;
-}
-
--- the output had failed before
-pub written_none : (asked : Asked) (rules : Rules) (input : Option (List ℕ)) (p : SinkState) (status : ℕ) → p.failed ≡ true → status ≡ 3 → Written asked rules input p p status
-written_none asked rules input p status off is = record {
+pub wrote_none : (asked : Asked) (rules : Rules) (input : Option (List ℕ)) (p s : SinkState) (trouble : Trouble) → Wrote asked rules input p p s s (Err trouble) no_files
+wrote_none asked rules input p s trouble = record {
   events = [];
-  put = λ fine. absurd (cc);
-  status = inl is;
-  are = none_so_far asked.layout.shape (terms_in asked rules) input (λ to. status ≢ 3) (λ not. not is);
+  put = λ fine. appends_none p.gone_out;
+  told = [];
+  tells = λ k. refl;
+  went = λ fine. appends_none s.gone_out;
+  tally_is = refl;
+  are = none_so_far asked.layout.shape (terms_in asked rules) input (λ to. ⊥ × (to ≢ at_loss)) (λ w. w.0);
 }

@@ -8,11 +8,12 @@ use Rattle.jser_reader.specs.ReaderStates.{FinishTells, Reading, SkipTells, Stan
 use Rattle.jser_reader.proofs.RefusalLemmas.{front_refused}
 use Rattle.jser_check.specs.Admitted.{FilterWith, gate_of_filter}
 use Rattle.jser_check.proofs.AnswerLemmas.{reports, right_refuses}
-use Rattle.jser_check_anywhere.proofs.SourceLemmas.{fault_of}
-use Rattle.jser_check_anywhere.specs.Answers.{Checking, EndTells, FeedTells}
-use Rattle.jser_check_anywhere.specs.SourceAnswers.{FaultOf, HiddenIn}
-use Rattle.jser_check_anywhere.specs.declared.AnywhereFault.{AnywhereFault}
-use Rattle.jser_check_anywhere.specs.declared.AnywhereFault.TheVariants as fault
+use Rattle.jser_check.proofs.SourceLemmas.{fault_of}
+use Rattle.jser_check.specs.Passing.{asking}
+use Rattle.jser_check.specs.Pieces.{Checking, EndTells, FeedTells, asked_by}
+use Rattle.jser_check.specs.Reads.{FaultOf, HiddenIn}
+use Rattle.jser_check.specs.declared.AnywhereFault.{AnywhereFault}
+use Rattle.jser_check.specs.declared.AnywhereFault.TheVariants as fault
 use Rattle.jser_scan.specs.declared.Found.{Found}
 use Rattle.jser_scan.specs.declared.Found.TheVariants as found
 use Rattle.jser_scan.specs.declared.Rules.{Rules}
@@ -91,15 +92,15 @@ plain_ends rules old new taken totals off under t took =
 -- ---- with names at any place
 
 pub anywhere_feeds : (rules : Rules) (old new : Checking) (taken piece : List ℕ) (result : Result (Unit {0}) AnywhereFault) → rules.anywhere ≡ true
-    → old.reader.gate ≡ filter_in rules → FeedTells old.reader.gate.filter old.reader.gate.options taken piece result new
+    → asked_by old ≡ asking rules.filter (options_in rules) true → FeedTells (asked_by old) taken piece result new
     → Feeds rules (check.Anywhere new) taken piece result
 anywhere_feeds rules old new taken piece (Ok x) on under t = t
 anywhere_feeds rules old new taken piece (Err why) on under t = λ more.
     subst (λ b. FaultIf b rules ((taken ++ piece) ++ more) why) (sym on)
-    (fault_of rules.filter (options_in rules) taken piece more ((taken ++ piece) ++ more) why refl
-    (subst (λ g. FeedTells g.filter g.options taken piece (Err why) new) under t))
+    (fault_of (asking rules.filter (options_in rules) true) taken piece more ((taken ++ piece) ++ more) why refl
+    (subst (λ a. FeedTells a taken piece (Err why) new) under t))
 
-end_of : (rules : Rules) (taken : List ℕ) (result : Result Totals AnywhereFault) (b : Bool) → b ≡ true → EndTells rules.filter (options_in rules) taken result
+end_of : (rules : Rules) (taken : List ℕ) (result : Result Totals AnywhereFault) (b : Bool) → b ≡ true → EndTells (asking rules.filter (options_in rules) true) taken result
     → rules.anywhere ≡ b → Ends rules taken result
 end_of rules taken (Ok totals) b on t is = subst (λ x. ReportsIf x rules taken totals) (sym (is ∙ on)) t
 end_of rules taken (Err (fault.Stop (stop.Refused refusal))) b on t is =
@@ -110,10 +111,10 @@ end_of rules taken (Err (fault.Stop stop.Spent)) b on t is = absurd t
 end_of rules taken (Err fault.ReadFault) b on t is = absurd t
 end_of rules taken (Err (fault.Hidden from to)) b on t is = absurd t
 
-pub anywhere_ends : (rules : Rules) (old : Checking) (taken : List ℕ) (result : Result Totals AnywhereFault) → rules.anywhere ≡ true → old.reader.gate ≡ filter_in rules
-    → EndTells old.reader.gate.filter old.reader.gate.options taken result → Ends rules taken result
+pub anywhere_ends : (rules : Rules) (old : Checking) (taken : List ℕ) (result : Result Totals AnywhereFault) → rules.anywhere ≡ true → asked_by old ≡ asking rules.filter (options_in rules) true
+    → EndTells (asked_by old) taken result → Ends rules taken result
 anywhere_ends rules old taken result on under t =
-    end_of rules taken result true refl (subst (λ g. EndTells g.filter g.options taken result) under t) on
+    end_of rules taken result true refl (subst (λ a. EndTells a taken result) under t) on
 
 -- ---- what is found
 
@@ -123,7 +124,7 @@ refused_if b rules bytes refusal (found.Accepted totals) h is = absurd is
 refused_if false rules bytes refusal (found.Refused same class) h is =
     (subst (λ r. PlainFault rules bytes (fault.Stop (stop.Refused r))) (sym is.0) h, subst (λ r. IsNameFor rules r.reason class) (sym is.0) is.1)
 refused_if true rules bytes refusal (found.Refused same class) h is =
-    (subst (λ r. FaultOf rules.filter (options_in rules) bytes (fault.Stop (stop.Refused r))) (sym is.0) h, subst (λ r. IsNameFor rules r.reason class) (sym is.0) is.1)
+    (subst (λ r. FaultOf (asking rules.filter (options_in rules) true) bytes (fault.Stop (stop.Refused r))) (sym is.0) h, subst (λ r. IsNameFor rules r.reason class) (sym is.0) is.1)
 refused_if b rules bytes refusal (found.Hidden from to class) h is = absurd is
 refused_if b rules bytes refusal found.NotOpened h is = absurd is
 refused_if b rules bytes refusal (found.NotRead why) h is = absurd is
@@ -140,7 +141,7 @@ hidden_if false rules bytes from to result h is = absurd h
 hidden_if true rules bytes from to (found.Accepted totals) h is = absurd is
 hidden_if true rules bytes from to (found.Refused refusal class) h is = absurd is
 hidden_if true rules bytes from to (found.Hidden starts ends class) h is =
-    (subst (λ a. HiddenIn rules.filter (options_in rules) bytes a ends) (sym is.0.0) (subst (λ e. HiddenIn rules.filter (options_in rules) bytes from e) (sym is.0.1) h), is.1)
+    (subst (λ a. HiddenIn (asking rules.filter (options_in rules) true) bytes a ends) (sym is.0.0) (subst (λ e. HiddenIn (asking rules.filter (options_in rules) true) bytes from e) (sym is.0.1) h), is.1)
 hidden_if true rules bytes from to found.NotOpened h is = absurd is
 hidden_if true rules bytes from to (found.NotRead why) h is = absurd is
 hidden_if true rules bytes from to found.OutOfMemory h is = tt

@@ -1,3 +1,4 @@
+pub mod EndLemmas
 pub mod FieldLemmas
 pub mod FrameLemmas
 pub mod HeaderLemmas

@@ -1,10 +1,10 @@
--- What is written of all records of an input.
-use Rattle.std.specs.Prelude.{◌≡◌, ◌≢◌, ◌⊎◌, ℕ, Bool, false, List, [], Option, IfSome, Result, Ok, Err, IfOk}
+-- What is written of the records of an input, up to where reading ended.
+use Rattle.std.specs.Prelude.{◌≡◌, ◌≢◌, ℕ, Bool, false, List, [], ◌++◌, Option, IfSome, Result, Ok, Err}
 use Rattle.std.specs.Io.KnownBytes.{Appends}
 use Rattle.jser_prim.specs.Outgoing.{SinkState, sink_state}
 use Rattle.jser_scan.specs.declared.Rules.{Rules}
 use Rattle.jser_scan.specs.declared.Tally.{Tally}
-use Rattle.jser_scan.specs.Tallies.{no_files, status_of}
+use Rattle.jser_scan.specs.Tallies.{no_files}
 use Rattle.jser_records.specs.declared.clerk.Clerk.{Clerk}
 use Rattle.jser_records.specs.declared.layout.Shape.{Shape}
 use Rattle.jser_records.specs.declared.layout.Shape.TheVariants as shape
@@ -14,7 +14,7 @@ use Rattle.jser_records.specs.Held.{Terms, terms_of}
 use Rattle.jser_records.specs.Lines.{end_of}
 use Rattle.jser_records.specs.Records.{AreRecords}
 use Rattle.jser_records.specs.Sized.{At, at_line, at_loss}
-use Rattle.jser_records.specs.Told.{Event, SaysAll, all_counted, all_put}
+use Rattle.jser_records.specs.Told.{Event, SaysAll, all_counted, all_put, all_told}
 
 -- These are the records of an input that tells its bytes, from the first on, each one and no other; and all of them, where it
 -- was read whole.
@@ -49,25 +49,19 @@ ReadsTo gone_out has_failed told_out told_failed result layout old new input bef
 abbrev pub terms_in : Asked → Rules → Terms
 terms_in asked rules = record { rules = rules; most = asked.layout.most; hands_on = asked.pass }
 
--- What is written of all records of an input: as long as the output has not failed, what is put of the records in their order,
--- from number 0, and nothing else. The status is that of their counts, or 3.
-pub record Written (asked : Asked) (rules : Rules) (input : Option (List ℕ)) (before after : SinkState) (result : ℕ) : Type 0 where
+-- What is written of all records of an input: as long as a device has not failed, what is put and told of the records in their order, from
+-- number 0, and nothing else. The counts are theirs.
+pub record Wrote (asked : Asked) (rules : Rules) (input : Option (List ℕ)) (before after told_before told_after : SinkState) (result : Result (Unit {0}) Trouble) (tally : Tally) : Type 0 where
   pub events : List Event
   pub put : after.failed ≡ false → Appends before.gone_out after.gone_out (all_put asked.how asked.pass 0 events [])
-  pub status : (result ≡ 3) ⊎ (result ≡ status_of (all_counted no_files events))
-  pub are : AreAll asked.layout.shape (terms_in asked rules) input events (λ to. result ≢ 3)
-
-abbrev pub WrittenTo : {S : Type 0} → (S → Option (List ℕ)) → (S → Bool) → Asked → Rules → (input : Option (List ℕ)) → (before after : S) → (status : ℕ) → Type 0
-WrittenTo gone_out has_failed asked rules input before after status =
-    Written asked rules input (sink_state (gone_out before) (has_failed before)) (sink_state (gone_out after) (has_failed after)) status
-
--- the same where the counts are known, unless there is a trouble
-pub record Wrote (asked : Asked) (rules : Rules) (input : Option (List ℕ)) (before after : SinkState) (result : Result Tally Trouble) : Type 0 where
-  pub events : List Event
-  pub put : after.failed ≡ false → Appends before.gone_out after.gone_out (all_put asked.how asked.pass 0 events [])
-  pub tally : IfOk result (λ tally. tally ≡ all_counted no_files events)
+  pub told : List ℕ
+  pub tells : (k : List ℕ) → all_told asked.how asked.pass 0 events k ≡ told ++ k
+  pub went : told_after.failed ≡ false → Appends told_before.gone_out told_after.gone_out told
+  pub tally_is : tally ≡ all_counted no_files events
   pub are : AreAll asked.layout.shape (terms_in asked rules) input events (λ to. IsFine result × (to ≢ at_loss))
 
-abbrev pub WroteTo : {S : Type 0} → (S → Option (List ℕ)) → (S → Bool) → Asked → Rules → (input : Option (List ℕ)) → (before after : S) → Result Tally Trouble → Type 0
-WroteTo gone_out has_failed asked rules input before after result =
-    Wrote asked rules input (sink_state (gone_out before) (has_failed before)) (sink_state (gone_out after) (has_failed after)) result
+abbrev pub WroteTo : {S T : Type 0} → (S → Option (List ℕ)) → (S → Bool) → (T → Option (List ℕ)) → (T → Bool) → Asked → Rules → (input : Option (List ℕ)) → (before after : S) → (told_before told_after : T)
+    → Result (Unit {0}) Trouble → Tally → Type 0
+WroteTo gone_out has_failed told_out told_failed asked rules input before after told_before told_after result tally =
+    Wrote asked rules input (sink_state (gone_out before) (has_failed before)) (sink_state (gone_out after) (has_failed after))
+    (sink_state (told_out told_before) (told_failed told_before)) (sink_state (told_out told_after) (told_failed told_after)) result tally

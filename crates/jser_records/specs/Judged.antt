@@ -5,10 +5,11 @@ use Rattle.jser_reader.specs.declared.Totals.{Totals}
 use Rattle.jser_reader.specs.ReaderStates.{StandsFor}
 use Rattle.jser_check.specs.Admitted.{FilterWith, gate_of_filter}
 use Rattle.jser_check.specs.Answers.{Refuses, Reports}
-use Rattle.jser_check_anywhere.specs.Answers.{HasTaken, ReportsAnywhere}
-use Rattle.jser_check_anywhere.specs.SourceAnswers.{FaultOf}
-use Rattle.jser_check_anywhere.specs.declared.AnywhereFault.{AnywhereFault}
-use Rattle.jser_check_anywhere.specs.declared.AnywhereFault.TheVariants as fault
+use Rattle.jser_check.specs.Passing.{asking}
+use Rattle.jser_check.specs.Pieces.{HasTaken, ReportsAnywhere, asked_by}
+use Rattle.jser_check.specs.Reads.{FaultOf}
+use Rattle.jser_check.specs.declared.AnywhereFault.{AnywhereFault}
+use Rattle.jser_check.specs.declared.AnywhereFault.TheVariants as fault
 use Rattle.jser_scan.specs.declared.Found.{Found}
 use Rattle.jser_scan.specs.declared.Found.TheVariants as found
 use Rattle.jser_scan.specs.declared.Rules.{Rules}
@@ -26,7 +27,7 @@ filter_in rules = record { filter = rules.filter; options = options_in rules }
 -- it is a check under these rules
 abbrev pub IsUnder : Rules → Check → Type 0
 IsUnder rules (check.Plain reader) = (rules.anywhere ≡ false) × (reader.gate ≡ filter_in rules)
-IsUnder rules (check.Anywhere checker) = (rules.anywhere ≡ true) × (checker.reader.gate ≡ filter_in rules)
+IsUnder rules (check.Anywhere checker) = (rules.anywhere ≡ true) × (asked_by checker ≡ asking rules.filter (options_in rules) true)
 
 -- it took these bytes, which decide nothing
 abbrev pub Took : Rules → Check → List ℕ → Type 0
@@ -44,7 +45,7 @@ PlainFault rules bytes (fault.Hidden from to) = ⊥
 
 abbrev pub FaultIf : (anywhere : Bool) → Rules → List ℕ → AnywhereFault → Type 0
 FaultIf false rules bytes why = PlainFault rules bytes why
-FaultIf true rules bytes why = FaultOf rules.filter (options_in rules) bytes why
+FaultIf true rules bytes why = FaultOf (asking rules.filter (options_in rules) true) bytes why
 
 abbrev pub ReportsIf : (anywhere : Bool) → Rules → List ℕ → Totals → Type 0
 ReportsIf false rules bytes totals = Reports rules.filter (options_in rules) bytes totals

@@ -1,4 +1,5 @@
 pub mod Arriving
+pub mod Ends
 pub mod Fields
 pub mod Frames
 pub mod Headers

@@ -42,6 +42,7 @@ impl<'f> Clerk<'f> {
         ensures tally { IfOk result (λ clerk. clerk.tally ≡ no_files) }
         ensures terms { IfOk result (λ clerk. terms_of clerk.current ≡ record { rules = rules.now; most = most; hands_on = passes }) }
         ensures output { IfOk result (λ clerk. clerk.output ≡ record { waiting = []; written = 0; failed = false }) }
+        ensures faults { IfOk result (λ clerk. clerk.faults ≡ record { waiting = []; written = 0; failed = false }) }
     {
         match Record::new(alloc, rules, passes, most) {
             Ok(current) => Ok(Clerk {
@@ -113,6 +114,7 @@ impl<'f> Clerk<'f> {
         ensures quiet { QuietTo W.gone_out W.has_failed E.gone_out E.has_failed self.old self.new output.old output.new faults.old faults.new }
         ensures current { self.new.current ≡ self.old.current }
         ensures empty { self.new.output.failed ≡ false → self.new.output.waiting ≡ [] }
+        ensures told { self.new.faults.failed ≡ false → self.new.faults.waiting ≡ [] }
         ensures ok { OnOk result (self.new.output.failed ≡ false) }
         ensures err { OnErr result (self.new.output.failed ≡ true) }
     {

@@ -27,7 +27,7 @@ const NULL: u32 = u32::MAX;
 /// Reads frames, to the end of the input.
 #[tactic(auto, using(crate::proofs::RecordLemmas::records_both, crate::proofs::RecordLemmas::records_then, crate::proofs::RecordLemmas::records_front, crate::proofs::RecordLemmas::records_none))]
 pub(crate) fn read_frames<R: Source, W: Sink, E: Sink>(
-    inbox: &mut Inbox<R>,
+    inbox: &mut Inbox<'_, R>,
     clerk: &mut Clerk<'_>,
     output: &mut W,
     faults: &mut E,
@@ -49,7 +49,7 @@ pub(crate) fn read_frames<R: Source, W: Sink, E: Sink>(
 /// Reads the next frame, or more of the input where its length is not whole. `false` at the end of the input.
 #[tactic(auto, using(crate::proofs::RecordLemmas::records_quiet, crate::proofs::RecordLemmas::records_both, crate::proofs::RecordLemmas::front_quiet, crate::proofs::RoomLemmas::took_more, crate::proofs::RoomLemmas::ended_over))]
 fn next_frame<R: Source, W: Sink, E: Sink>(
-    inbox: &mut Inbox<R>,
+    inbox: &mut Inbox<'_, R>,
     clerk: &mut Clerk<'_>,
     output: &mut W,
     faults: &mut E,
@@ -73,7 +73,7 @@ fn next_frame<R: Source, W: Sink, E: Sink>(
 /// The input has ended: what waits is a part of a length, if it has a byte.
 #[tactic(auto, using(crate::proofs::RecordLemmas::records_none))]
 fn end_frames<R: Source, W: Sink, E: Sink>(
-    inbox: &mut Inbox<R>,
+    inbox: &mut Inbox<'_, R>,
     clerk: &mut Clerk<'_>,
     output: &mut W,
     faults: &mut E,
@@ -98,7 +98,7 @@ fn end_frames<R: Source, W: Sink, E: Sink>(
 
 /// Reads a frame, whose length waits. Always `true`.
 fn read_frame<R: Source, W: Sink, E: Sink>(
-    inbox: &mut Inbox<R>,
+    inbox: &mut Inbox<'_, R>,
     clerk: &mut Clerk<'_>,
     output: &mut W,
     faults: &mut E,
@@ -123,7 +123,7 @@ fn read_frame<R: Source, W: Sink, E: Sink>(
 /// Takes the value of a frame of this length, which may be that of a null.
 #[tactic(auto, using(crate::proofs::FrameLemmas::null_taken, crate::proofs::FrameLemmas::value_taken, crate::proofs::ToldLemmas::quiet_changed))]
 fn take_value<R: Source, W: Sink, E: Sink>(
-    inbox: &mut Inbox<R>,
+    inbox: &mut Inbox<'_, R>,
     clerk: &mut Clerk<'_>,
     length: u32,
     output: &mut W,
@@ -143,7 +143,7 @@ fn take_value<R: Source, W: Sink, E: Sink>(
 /// Takes the bytes of a record, so many. Where there are more than are read at most, it goes over them.
 #[tactic(auto, using(crate::proofs::FrameLemmas::takes_all))]
 pub(crate) fn take_bytes<R: Source, W: Sink, E: Sink>(
-    inbox: &mut Inbox<R>,
+    inbox: &mut Inbox<'_, R>,
     clerk: &mut Clerk<'_>,
     count: u64,
     output: &mut W,
@@ -180,7 +180,7 @@ pub(crate) fn take_bytes<R: Source, W: Sink, E: Sink>(
 /// input has not ended.
 #[tactic(auto, using(crate::proofs::FrameLemmas::some_later, crate::proofs::ToldLemmas::quiet_both, crate::proofs::ToldLemmas::quiet_changed, crate::proofs::ToldLemmas::quiet_from, crate::proofs::RoomLemmas::took_more))]
 fn next_piece<R: Source, W: Sink, E: Sink>(
-    inbox: &mut Inbox<R>,
+    inbox: &mut Inbox<'_, R>,
     clerk: &mut Clerk<'_>,
     left: u64,
     output: &mut W,
@@ -206,7 +206,7 @@ fn next_piece<R: Source, W: Sink, E: Sink>(
 }
 
 /// Takes what waits of the bytes of a record, of which so many are left. How many that are.
-fn take_waiting<R: Source>(inbox: &mut Inbox<R>, current: &mut Record<'_>, left: u64) -> u64
+fn take_waiting<R: Source>(inbox: &mut Inbox<'_, R>, current: &mut Record<'_>, left: u64) -> u64
     ensures within { result ≤ left }
     ensures none { result ≡ 0 → 0 < left → inbox.new.waiting ≡ [] }
     ensures sought { inbox.new.sought ≡ inbox.old.sought }

@@ -13,8 +13,8 @@ pub(crate) const ROOM: usize = 131_072;
 
 /// What came from a source and waits to be taken.
 #[derive(Drop)]
-pub(crate) struct Inbox<R: Source> {
-    source: R,
+pub(crate) struct Inbox<'s, R: Source> {
+    source: &'s mut R,
     room: Vec<u8>,
     start: usize,
     end: usize,
@@ -25,23 +25,25 @@ pub(crate) struct Inbox<R: Source> {
     is_over: bool,
 }
 
-impl<R: Source> Model for Inbox<R> {
+impl<'s, R: Source> Model for Inbox<'s, R> {
     ghost use Rattle.jser_records.specs.Arriving.{Arriving, Holds, view_of};
 
     ghost Value = { Arriving };
 
-    ghost view = { λ a. view_of (R.to_come a.source) a.room.items a.start a.end a.sought a.is_over };
+    ghost view = { λ a. view_of (R.to_come a.source.now) a.room.items a.start a.end a.sought a.is_over };
 
-    ghost invariant = { λ a. Holds (R.to_come a.source) a.room.items a.start a.end a.sought a.searched a.is_over };
+    ghost invariant = { λ a. Holds (R.to_come a.source.now) a.room.items a.start a.end a.sought a.searched a.is_over };
 }
 
-impl<R: Source> Inbox<R> {
+impl<'s, R: Source> Inbox<'s, R> {
     /// Nothing waits so far. This byte is looked for.
     #[tactic(auto, using(crate::proofs::RoomLemmas::room_empty))]
-    pub(crate) fn new(alloc: Global, source: R, sought: u8) -> Result<Inbox<R>, AllocError>
-    where
-        R: Drop,
-        ensures begins { IfOk result (λ inbox. inbox ≡ record { waiting = []; to_come = R.to_come source; sought = sought; is_over = false }) }
+    pub(crate) fn new(
+        alloc: Global,
+        source: &'s mut R,
+        sought: u8,
+    ) -> Result<Inbox<'s, R>, AllocError>
+        ensures begins { IfOk result (λ inbox. inbox ≡ record { waiting = []; to_come = R.to_come source.old; sought = sought; is_over = false }) }
     {
         let room = vec![in alloc; 0u8; ROOM]?;
         Ok(Inbox {
@@ -140,7 +142,7 @@ impl<R: Source> Inbox<R> {
         if end >= self.room.len() {
             return Ok(true);
         }
-        let count = match take_behind(&mut self.source, self.room.as_mut_slice(), end) {
+        let count = match take_behind(self.source, self.room.as_mut_slice(), end) {
             Ok(count) => count,
             Err(failed) => return Err(failed),
         };

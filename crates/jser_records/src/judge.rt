@@ -1,5 +1,5 @@
 //! The check of one record after another, which keeps its memory: under the filter alone, or with names at any place.
-ghost use Rattle.std.specs.Prelude.{◌≡◌, ◌++◌, ◌<◌, ◌^◌, ℕ, List, [], length, true, false, IfSome};
+ghost use Rattle.std.specs.Prelude.{◌≡◌, ◌++◌, ◌<◌, ◌^◌, ℕ, List, [], length, true, false, IfOk, IfSome};
 ghost use Rattle.jser_scan.specs.Founds.{IsFound};
 ghost use Rattle.jser_scan.specs.LastSeen.{AreLast};
 ghost use Rattle.jser_scan.specs.Lines.{is_accepted};
@@ -7,12 +7,11 @@ ghost use Rattle.jser_scan.specs.NamePlaces.{NameStands};
 ghost use Rattle.jser_scan.specs.declared.Rules.{Rules as ToldRules};
 ghost use Rattle.jser_records.specs.Judged.{Ends, FaultIf, FeedFinds, Feeds, HasJudged, IsRead, IsSound, IsUnder, Took};
 
-use jser_check::{FilterGate, Options, Stop};
-use jser_check_anywhere::{AnywhereChecker, AnywhereFault};
+use jser_check::{AnywhereFault, Check as OneCheck, HeldGate, Options, Stop};
 use jser_filter::Filter;
 use jser_reader::{Reader, Totals};
 use jser_scan::{Found, LastBytes, Rules, hidden, refused};
-use std::alloc::Global;
+use std::alloc::{AllocError, Global};
 use std::marker::Model;
 
 /// The check of one record after another.
@@ -27,8 +26,8 @@ pub(crate) struct Judge<'f> {
 /// The check under the filter alone, or with names at any place.
 #[derive(Drop)]
 enum Check<'f> {
-    Plain(Reader<FilterGate<&'f Filter>>),
-    Anywhere(AnywhereChecker<'f>),
+    Plain(Reader<HeldGate<&'f Filter>>),
+    Anywhere(OneCheck<&'f Filter>),
 }
 
 impl<'f> Model for Judge<'f> {
@@ -42,15 +41,18 @@ impl<'f> Model for Judge<'f> {
 }
 
 impl<'f> Judge<'f> {
-    /// A check that has taken nothing, under these rules. Takes no memory.
-    pub(crate) fn new(alloc: Global, rules: &'f Rules) -> Judge<'f>
-        ensures { result.rules ≡ rules.now }
+    /// A check that has taken nothing, under these rules.
+    pub(crate) fn new(alloc: Global, rules: &'f Rules) -> Result<Judge<'f>, AllocError>
+        ensures { IfOk result (λ judge. judge.rules ≡ rules.now) }
     {
-        Judge {
-            alloc,
-            rules,
-            check: check_under(alloc, rules),
-            last: LastBytes::new(alloc),
+        match check_under(alloc, rules) {
+            Ok(check) => Ok(Judge {
+                alloc,
+                rules,
+                check,
+                last: LastBytes::new(alloc),
+            }),
+            Err(failed) => Err(failed),
         }
     }
 
@@ -111,16 +113,19 @@ impl<'f> Judge<'f> {
 }
 
 /// The check under these rules.
-fn check_under<'f>(alloc: Global, rules: &'f Rules) -> Check<'f>
-    ensures { IsUnder rules.now result }
+fn check_under<'f>(alloc: Global, rules: &'f Rules) -> Result<Check<'f>, AllocError>
+    ensures { IfOk result (λ check. IsUnder rules.now check) }
 {
     let options = Options {
         strict: rules.strict,
     };
-    if rules.anywhere {
-        Check::Anywhere(AnywhereChecker::lent(alloc, &rules.filter, options))
-    } else {
-        Check::Plain(Reader::new(alloc, FilterGate::new(&rules.filter, options)))
+    let gate = HeldGate::new(&rules.filter, options);
+    if !rules.anywhere {
+        return Ok(Check::Plain(Reader::new(alloc, gate)));
+    }
+    match OneCheck::under(alloc, gate, true) {
+        Ok(checker) => Ok(Check::Anywhere(checker)),
+        Err(failed) => Err(failed),
     }
 }
 

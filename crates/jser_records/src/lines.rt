@@ -40,7 +40,7 @@ enum Stretch {
 
 /// Reads records that are lines, to the end of the input.
 pub(crate) fn read_lines<R: Source, W: Sink, E: Sink>(
-    inbox: &mut Inbox<R>,
+    inbox: &mut Inbox<'_, R>,
     clerk: &mut Clerk<'_>,
     lines: Lines,
     output: &mut W,
@@ -63,7 +63,7 @@ pub(crate) fn read_lines<R: Source, W: Sink, E: Sink>(
 
 /// Reads the next line, or more of the input where its end is not there. `false` at the end of the input.
 fn next_line<R: Source, W: Sink, E: Sink>(
-    inbox: &mut Inbox<R>,
+    inbox: &mut Inbox<'_, R>,
     clerk: &mut Clerk<'_>,
     lines: Lines,
     output: &mut W,
@@ -94,7 +94,7 @@ fn next_line<R: Source, W: Sink, E: Sink>(
 
 /// Takes a line of so many bytes and its end, which wait.
 fn take_whole_line<R: Source>(
-    inbox: &mut Inbox<R>,
+    inbox: &mut Inbox<'_, R>,
     current: &mut Record<'_>,
     lines: Lines,
     count: usize,
@@ -111,7 +111,7 @@ fn take_whole_line<R: Source>(
 
 /// What is left at the end of the input is the last line, if it has a byte.
 fn take_last_line<R: Source, W: Sink, E: Sink>(
-    inbox: &mut Inbox<R>,
+    inbox: &mut Inbox<'_, R>,
     clerk: &mut Clerk<'_>,
     lines: Lines,
     output: &mut W,
@@ -295,7 +295,7 @@ fn mark_len(value: &[u8]) -> usize
 
 /// Reads a line that does not fit the room, which is full of its first bytes. Always `true`.
 fn read_long_line<R: Source, W: Sink, E: Sink>(
-    inbox: &mut Inbox<R>,
+    inbox: &mut Inbox<'_, R>,
     clerk: &mut Clerk<'_>,
     lines: Lines,
     output: &mut W,
@@ -327,7 +327,11 @@ fn read_long_line<R: Source, W: Sink, E: Sink>(
 }
 
 /// Takes the first bytes of a long line, all that wait but for a last one that belongs together with the next.
-fn first_stretch<R: Source>(inbox: &mut Inbox<R>, current: &mut Record<'_>, lines: Lines) -> Stretch
+fn first_stretch<R: Source>(
+    inbox: &mut Inbox<'_, R>,
+    current: &mut Record<'_>,
+    lines: Lines,
+) -> Stretch
     requires none { HasNone (end_of lines) inbox.old.waiting }
     requires long { length inbox.old.waiting ≡ room_size }
     ensures takes { TakesFirst lines result inbox.old inbox.new current.new }
@@ -342,7 +346,7 @@ fn first_stretch<R: Source>(inbox: &mut Inbox<R>, current: &mut Record<'_>, line
 
 /// Takes the next bytes of a long line that wait. `None` where these are the last ones.
 fn next_stretch<R: Source>(
-    inbox: &mut Inbox<R>,
+    inbox: &mut Inbox<'_, R>,
     current: &mut Record<'_>,
     lines: Lines,
     stretch: Stretch,

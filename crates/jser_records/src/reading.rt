@@ -36,9 +36,13 @@ impl<'f> Reading<'f> {
         ensures rules { IfOk result (λ reading. reading.judge.rules ≡ rules.now) }
         ensures most { IfOk result (λ reading. reading.most ≡ most) }
     {
+        let judge = match Judge::new(alloc, rules) {
+            Ok(judge) => judge,
+            Err(failed) => return Err(failed),
+        };
         match Key::new(alloc) {
             Ok(key) => Ok(Reading {
-                judge: Judge::new(alloc, rules),
+                judge,
                 key,
                 most,
                 decoder: Decoder::new(Form::Binary),

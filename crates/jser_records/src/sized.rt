@@ -32,7 +32,7 @@ enum LineEnd {
 
 /// Reads records behind their length, to the end of the input, or to where no length is.
 pub(crate) fn read_sized<R: Source, W: Sink, E: Sink>(
-    inbox: &mut Inbox<R>,
+    inbox: &mut Inbox<'_, R>,
     clerk: &mut Clerk<'_>,
     output: &mut W,
     faults: &mut E,
@@ -54,7 +54,7 @@ pub(crate) fn read_sized<R: Source, W: Sink, E: Sink>(
 /// Reads the next record, or more of the input where the line of its length is not whole. `false` at the end of the input, and where
 /// nobody knows what comes next.
 fn next_record<R: Source, W: Sink, E: Sink>(
-    inbox: &mut Inbox<R>,
+    inbox: &mut Inbox<'_, R>,
     clerk: &mut Clerk<'_>,
     output: &mut W,
     faults: &mut E,
@@ -79,7 +79,7 @@ fn next_record<R: Source, W: Sink, E: Sink>(
 
 /// Takes the record behind the line that is left at the end of the input, if it has a byte.
 fn take_last_line<R: Source, W: Sink, E: Sink>(
-    inbox: &mut Inbox<R>,
+    inbox: &mut Inbox<'_, R>,
     clerk: &mut Clerk<'_>,
     output: &mut W,
     faults: &mut E,
@@ -98,7 +98,7 @@ fn take_last_line<R: Source, W: Sink, E: Sink>(
 
 /// Takes the record behind a line of so many bytes, with an end of so many. `false` where nobody knows what comes next.
 fn take_line<R: Source, W: Sink, E: Sink>(
-    inbox: &mut Inbox<R>,
+    inbox: &mut Inbox<'_, R>,
     clerk: &mut Clerk<'_>,
     count: usize,
     end: usize,
@@ -126,7 +126,7 @@ fn without_return(line: &[u8]) -> &[u8]
 
 /// Takes the record behind a header of so many bytes, its line end among them. `false` where nobody knows what comes next.
 fn take_record<R: Source, W: Sink, E: Sink>(
-    inbox: &mut Inbox<R>,
+    inbox: &mut Inbox<'_, R>,
     clerk: &mut Clerk<'_>,
     header: Header,
     size: usize,
@@ -173,7 +173,7 @@ fn take_record<R: Source, W: Sink, E: Sink>(
 
 /// Takes a header of so many bytes and the value of so many behind it. What is returned says whether the record is accepted.
 fn take_value<R: Source, W: Sink, E: Sink>(
-    inbox: &mut Inbox<R>,
+    inbox: &mut Inbox<'_, R>,
     clerk: &mut Clerk<'_>,
     key: usize,
     count: u64,
@@ -208,7 +208,12 @@ fn tell_loss<W: Sink, E: Sink>(
 
 /// Begins a record behind a header of so many bytes, whose first ones are the KEY.
 #[tactic(auto, using(crate::proofs::SizedLemmas::begun_held, crate::proofs::HeldLemmas::keeps_both))]
-fn begin_record<R: Source>(inbox: &mut Inbox<R>, current: &mut Record<'_>, key: usize, size: usize)
+fn begin_record<R: Source>(
+    inbox: &mut Inbox<'_, R>,
+    current: &mut Record<'_>,
+    key: usize,
+    size: usize,
+)
     ensures passed { inbox.new ≡ record inbox.old { waiting = drop size inbox.old.waiting } }
     ensures begun { HasBegun current.new.reading }
     ensures key { IsKeyOf current.new.reading.key (key_if (take key (take size inbox.old.waiting))) }
@@ -238,7 +243,7 @@ fn keep_key(current: &mut Record<'_>, bytes: &[u8])
 
 /// Takes the line end behind a value. `false` where something else is there.
 fn take_line_end<R: Source, W: Sink, E: Sink>(
-    inbox: &mut Inbox<R>,
+    inbox: &mut Inbox<'_, R>,
     clerk: &mut Clerk<'_>,
     passed: bool,
     output: &mut W,

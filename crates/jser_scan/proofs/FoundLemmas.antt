@@ -9,8 +9,9 @@ use Rattle.jser_inputs.specs.declared.InputFault.{InputFault}
 use Rattle.jser_grammar.specs.Parts.{IsBytes}
 use Rattle.jser_check.specs.Admitted.{gate_of_filter}
 use Rattle.jser_check.specs.Answers.{CarriesFirst, Reports, Refuses}
-use Rattle.jser_check_anywhere.specs.declared.AnywhereFault.TheVariants as fault
-use Rattle.jser_check_anywhere.specs.SourceAnswers.{SourceTells}
+use Rattle.jser_check.specs.declared.AnywhereFault.TheVariants as fault
+use Rattle.jser_check.specs.Passing.{asking}
+use Rattle.jser_check.specs.Reads.{SourceTells}
 use Rattle.jser_scan.specs.declared.check.Rules.{Rules}
 use Rattle.jser_scan.specs.declared.found.Found.{Found}
 use Rattle.jser_scan.specs.declared.found.Found.TheVariants as found
@@ -68,24 +69,24 @@ not_unopened result failed_before failed_after why fails is = subst (λ r. Fails
 
 -- ---- with names at any place
 
-pub accepted_anywhere : (rules : Rules) (told : Option (List ℕ)) (totals : Totals) → SourceTells rules.filter (options_in rules) told (Ok totals)
+pub accepted_anywhere : (rules : Rules) (told : Option (List ℕ)) (totals : Totals) → SourceTells (asking rules.filter (options_in rules) true) told (Ok totals)
     → IfSome told (λ bytes. IsFoundAnywhere rules bytes (found.Accepted totals))
 accepted_anywhere rules told totals h = h
 
 pub refused_anywhere : (rules : Rules) (told : Option (List ℕ)) (refusal : Refusal) (result : Found)
-    → SourceTells rules.filter (options_in rules) told (Err (fault.Stop (stop.Refused refusal)))
+    → SourceTells (asking rules.filter (options_in rules) true) told (Err (fault.Stop (stop.Refused refusal)))
     → IsRefusal rules refusal result → IfSome told (λ bytes. IsFoundAnywhere rules bytes result)
 refused_anywhere rules None refusal result h is = tt
 refused_anywhere rules (Some bytes) refusal (found.Accepted totals) h is = absurd is
 refused_anywhere rules (Some bytes) refusal (found.Refused same class) h is =
-    (subst (λ r. SourceTells rules.filter (options_in rules) (Some bytes) (Err (fault.Stop (stop.Refused r)))) (sym is.0) h, subst (λ r. IsNameFor rules r.reason class) (sym is.0) is.1)
+    (subst (λ r. SourceTells (asking rules.filter (options_in rules) true) (Some bytes) (Err (fault.Stop (stop.Refused r)))) (sym is.0) h, subst (λ r. IsNameFor rules r.reason class) (sym is.0) is.1)
 refused_anywhere rules (Some bytes) refusal (found.Hidden from to class) h is = absurd is
 refused_anywhere rules (Some bytes) refusal found.NotOpened h is = absurd is
 refused_anywhere rules (Some bytes) refusal (found.NotRead why) h is = absurd is
 refused_anywhere rules (Some bytes) refusal found.OutOfMemory h is = tt
 
 pub hidden_anywhere : (rules : Rules) (told : Option (List ℕ)) (from to : ℕ) (class : Option (Vec ℕ Global))
-    → SourceTells rules.filter (options_in rules) told (Err (fault.Hidden from to)) → IsRefusedName rules class
+    → SourceTells (asking rules.filter (options_in rules) true) told (Err (fault.Hidden from to)) → IsRefusedName rules class
     → IfSome told (λ bytes. IsFoundAnywhere rules bytes (found.Hidden from to class))
 hidden_anywhere rules None from to class h is = tt
 hidden_anywhere rules (Some bytes) from to class h is = (h, is)

@@ -1,7 +1,7 @@
 -- The last bytes of a stream, and a part of them.
 use Rattle.std.proofs.Common.{◌≡◌, ◌≤◌, ◌<◌, ℕ, zero, suc, ◌+◌, ◌-◌, ◌^◌, min, List, [], ◌∷◌, ◌++◌, length, take, drop, refl, sym, ap, subst, ◌∙◌, arith, append_assoc, append-nil, length-append}
 use Rattle.std.proofs.Math.Seq.{drop-nil, take-nil}
-use Rattle.std.proofs.lemmas.List.{take-append-drop, length-take-le, length-drop}
+use Rattle.std.proofs.lemmas.List.{take-append-drop, length-take-le, length-drop, take_at, drop_at}
 use Rattle.jser_scan.specs.LastSeen.{LastSeen, AreLast, LetsGo, StandsBetween}
 
 pub gone_none : (old : LastSeen) → LetsGo old old
@@ -101,3 +101,13 @@ all_kept last older newer end is none same bytes are few =
     let split : bytes ≡ are.lost ++ newer = are.split ∙ ap (λ xs. are.lost ++ xs) kept in
     let long = ap length split in
     sym (split ∙ all_of are.lost newer (omega arith))
+
+-- ---- a part that is not there
+
+-- at most one part stands between two places
+pub between_one : (bytes one other : List ℕ) (start end : ℕ) → StandsBetween bytes start end one → StandsBetween bytes start end other → one ≡ other
+between_one bytes one other start end s t =
+    let same : length one ≡ length other = let a = s.ends in let b = t.ends in omega (arith, a, b) in
+    let first : drop start bytes ≡ one ++ s.after = ap (λ xs. drop start xs) s.split ∙ drop_at s.before (one ++ s.after) start s.begins in
+    let second : drop start bytes ≡ other ++ t.after = ap (λ xs. drop start xs) t.split ∙ drop_at t.before (other ++ t.after) start t.begins in
+    sym (take_at one s.after (length one) refl) ∙ ap (λ xs. take (length one) xs) (sym first ∙ second) ∙ take_at other t.after (length one) (sym same)

@@ -3,9 +3,9 @@ use Rattle.std.specs.Io.KnownBytes.{Consumes, Keeps}
 use Rattle.std.specs.declared.alloc.Global.{Global}
 use Rattle.std.specs.declared.alloc.AllocError.{AllocError}
 use Rattle.std.specs.Prelude.{IfOk, IfSome, Vec}
-use Rattle.std.proofs.Common.{◌≡◌, ◌<◌, ℕ, ◌+◌, ◌^◌, inl, inr, List, [], ◌++◌, length, drop, Option, Some, None, Result, Ok, Err, refl, sym, ap, subst, ◌∙◌, arith, append_assoc, length-append}
+use Rattle.std.proofs.Common.{◌≡◌, ◌⊎◌, ◌<◌, ℕ, ◌+◌, ◌^◌, true, inl, inr, List, [], ◌++◌, length, drop, Option, Some, None, Result, Ok, Err, refl, sym, ap, subst, ◌∙◌, arith, append_assoc, length-append}
 use Rattle.std.proofs.lemmas.List.{drop_at}
-use Rattle.jser_prim.specs.ModifiedUtf8.{modified_utf8}
+use Rattle.jser_prim.specs.ModifiedUtf8.{IsUnits, modified_utf8}
 use Rattle.jser_grammar.specs.Caps.{most_bytes}
 use Rattle.jser_anywhere.specs.NamesIn.{IsNamed, Named, Telling, TellsNext, class_in, names_in, untold}
 use Rattle.jser_anywhere.specs.Standing.{Begins, StandsAt}
@@ -17,7 +17,14 @@ use Rattle.jser_scan.specs.declared.found.Found.{Found}
 use Rattle.jser_scan.specs.declared.found.Found.TheVariants as found
 use Rattle.jser_scan.specs.Devices.{HasGiven, KeepsEnd}
 use Rattle.jser_scan.specs.LastSeen.{AreLast, KeepsEndOfFront, LastSeen, StandsBetween}
-use Rattle.jser_scan.specs.NamePlaces.{NameStands}
+use Rattle.jser_scan.specs.NamePlaces.{HidesNone, NameStands, ReadsPassing, SpellsNone, TellsName}
+use Rattle.jser_scan.specs.declared.check.Rules.{Rules}
+use Rattle.jser_scan.specs.Founds.{IsNameFor, IsRefusal, IsRefusedName, found_of, is_of_class, options_in}
+use Rattle.jser_scan.proofs.LastLemmas.{between_one}
+use Rattle.jser_check.specs.Passing.{passes_name}
+use Rattle.jser_reader.specs.declared.Reason.{Reason}
+use Rattle.jser_reader.specs.declared.Reason.TheVariants as reason
+use Rattle.jser_reader.specs.declared.Refusal.{Refusal}
 
 -- ---- the text of a token
 
@@ -58,31 +65,6 @@ pub class_named : (bytes part : List ℕ) (from to : ℕ) (class : Vec ℕ Globa
 class_named bytes part from to class None s inside same = tt
 class_named bytes part from to class (Some told) s inside same =
     subst (λ xs. StandsAt bytes from to xs) (sym same) (stands_inside bytes part from to class.items s inside)
-
--- each of these names is one of those
-pub record AreAmong (names all : List Named) : Type 0 where
-  pub each : (from to : ℕ) (units : List ℕ) → IsNamed from to units names → IsNamed from to units all
-
-pub names_open : (names all : List Named) → names ≡ all → AreAmong names all
-names_open names all e = record { each = λ from to units is. subst (IsNamed from to units) e is }
-
-pub names_passed : (all : List Named) (old new : Telling) (stand : Stand) → TellsNext old (Some stand) new → AreAmong (untold old) all → AreAmong (untold new) all
-names_passed all old new stand tells among = record {
-  each = λ from to units is. among.each from to units (subst (IsNamed from to units) (sym tells) (inr is));
-}
-
-pub names_met : (part : List ℕ) (old new : Telling) (stand : Stand) (result : Result (Option (Vec ℕ Global)) AllocError) → TellsNext old (Some stand) new
-    → AreAmong (untold old) (names_in 0 part) → stand.from ≡ 0 → stand.to ≡ length part
-    → IfOk result (λ found. IfSome found (λ class. class.items ≡ class_in new.last))
-    → IfOk result (λ found. IfSome found (λ class. StandsAt part 0 (length part) class.items))
-names_met part old new stand (Err why) tells among from to is = tt
-names_met part old new stand (Ok None) tells among from to is = tt
-names_met part old new stand (Ok (Some class)) tells among from to is =
-    let named : IsNamed stand.from stand.to (class_in new.last) (names_in 0 part) =
-    among.each stand.from stand.to (class_in new.last) (subst (IsNamed stand.from stand.to (class_in new.last)) (sym tells) (inl (refl, refl, refl))) in
-    let stands = names_stand part stand.from stand.to (class_in new.last) named in
-    subst (λ xs. StandsAt part 0 (length part) xs) (sym is)
-    (subst (λ n. StandsAt part 0 n (class_in new.last)) to (subst (λ n. StandsAt part n stand.to (class_in new.last)) from stands))
 
 -- ---- an input that keeps the last bytes that it gave
 
@@ -135,3 +117,66 @@ name_told None has old new result starts keeps few stands = tt
 name_told (Some all) has old new result starts keeps few stands =
     let f = front_kept (Some all) has old new starts keeps few in
     subst (λ bytes. NameStands bytes result) (sym f.split) (name_longer f.front f.rest result (stands f.front f.ends f.few))
+
+-- ---- a refusal, and the name beside it
+
+-- of a class
+pub is_refusal : (rules : Rules) (refusal : Refusal) (class : Result (Option (Vec ℕ Global)) AllocError) → IfOk class (IsRefusedName rules) → is_of_class refusal.reason ≡ true
+    → IsRefusal rules refusal (found_of refusal class)
+is_refusal rules refusal (Err why) refuses is = tt
+is_refusal rules refusal (Ok class) refuses is = (refl, named refusal.reason is)
+  where
+    named : (why : Reason) → is_of_class why ≡ true → IsNameFor rules why class
+    named reason.ClassRejected is = refuses
+    named reason.ClassUnmatched is = refuses
+    named _ is = absurd (cc)
+
+-- where a name is told, it stands there
+pub names_refusal : (bytes : List ℕ) (refusal : Refusal) (class : Result (Option (Vec ℕ Global)) AllocError)
+    → IfOk class (λ told. IfSome told (λ units. StandsBetween bytes (refusal.from_byte + 2) refusal.to_byte (modified_utf8 units.items))) → NameStands bytes (found_of refusal class)
+names_refusal bytes refusal (Err why) stands = tt
+names_refusal bytes refusal (Ok class) stands = stands
+
+-- where none is told, the token spells none
+pub tells_in : (rules : Rules) (bytes : List ℕ) (refusal : Refusal) (class : Result (Option (Vec ℕ Global)) AllocError)
+    → (class ≡ Ok None → SpellsNone rules bytes refusal.from_byte refusal.to_byte) → TellsName rules bytes (found_of refusal class)
+tells_in rules bytes refusal (Err why) none = tt
+tells_in rules bytes refusal (Ok None) none = λ is. none refl
+tells_in rules bytes refusal (Ok (Some units)) none = tt
+
+-- or its bytes are kept no more
+pub tells_last : (rules : Rules) (bytes : List ℕ) (refusal : Refusal) (class : Result (Option (Vec ℕ Global)) AllocError) (Gone : Type 0)
+    → (class ≡ Ok None → Gone ⊎ SpellsNone rules bytes refusal.from_byte refusal.to_byte) → Gone ⊎ TellsName rules bytes (found_of refusal class)
+tells_last rules bytes refusal (Err why) Gone none = inr tt
+tells_last rules bytes refusal (Ok None) Gone none = elim (none refl) [ inl gone ↦ inl gone | inr spells ↦ inr (λ is. spells) ]
+tells_last rules bytes refusal (Ok (Some units)) Gone none = inr tt
+
+-- ---- a name that is not told
+
+-- a text that is no refused name is the only one between two places
+pub spells_none : (rules : Rules) (bytes text : List ℕ) (from start to : ℕ) → StandsBetween bytes start to text → start ≡ from + 2
+    → ((units : List ℕ) → IsUnits units → modified_utf8 units ≡ text → passes_name rules.filter (options_in rules) units ≡ true) → SpellsNone rules bytes from to
+spells_none rules bytes text from start to s at passes = λ units is there.
+    passes units is (between_one bytes (modified_utf8 units) text (from + 2) to there (subst (λ n. StandsBetween bytes n to text) at s))
+
+-- no text stands between them
+pub none_between : (rules : Rules) (bytes : List ℕ) (from to : ℕ) → ((text : List ℕ) → StandsBetween bytes (from + 2) to text → ⊥) → SpellsNone rules bytes from to
+none_between rules bytes from to none = λ units is there. absurd (none (modified_utf8 units) there)
+
+-- no part stands there, or its bytes are kept no more
+pub gone_or_none : (rules : Rules) (last : LastSeen) (bytes : List ℕ) (from start to : ℕ) → start ≡ from + 2
+    → (start + length last.kept < length bytes) ⊎ ((part : List ℕ) → StandsBetween bytes start to part → ⊥)
+    → (from + 2 + length last.kept < length bytes) ⊎ SpellsNone rules bytes from to
+gone_or_none rules last bytes from start to at (inl gone) = inl (omega (arith, at, gone))
+gone_or_none rules last bytes from start to at (inr none) = inr (none_between rules bytes from to (λ text there. none text (subst (λ n. StandsBetween bytes n to text) (sym at) there)))
+
+pub gone_or_hidden : (rules : Rules) (last : LastSeen) (bytes : List ℕ) (from to : ℕ)
+    → (from + length last.kept < length bytes) ⊎ ((part : List ℕ) → StandsBetween bytes from to part → ⊥) → (from + length last.kept < length bytes) ⊎ HidesNone rules bytes from to
+gone_or_hidden rules last bytes from to (inl gone) = inl gone
+gone_or_hidden rules last bytes from to (inr none) = inr (λ part there. absurd (none part there))
+
+-- one that is read stands alone there too
+pub hides_none : (rules : Rules) (bytes part : List ℕ) (from to : ℕ) → StandsBetween bytes from to part
+    → ((units : List ℕ) → StandsAt part 0 (length part) units → ⊥) ⊎ ReadsPassing rules part → HidesNone rules bytes from to
+hides_none rules bytes part from to s why = λ other there.
+    subst (λ xs. ((units : List ℕ) → StandsAt xs 0 (length xs) units → ⊥) ⊎ ReadsPassing rules xs) (between_one bytes part other from to s there) why

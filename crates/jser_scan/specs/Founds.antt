@@ -1,6 +1,7 @@
 -- What was found of a file is right of its bytes.
+use Rattle.std.specs.declared.alloc.AllocError.{AllocError}
 use Rattle.std.specs.declared.alloc.Global.{Global}
-use Rattle.std.specs.Prelude.{◌≡◌, ℕ, Bool, true, false, List, Option, Some, None, Vec}
+use Rattle.std.specs.Prelude.{◌≡◌, ℕ, Bool, true, false, List, Option, Some, None, Result, Ok, Err, Vec}
 use Rattle.jser_reader.specs.declared.Reason.{Reason}
 use Rattle.jser_reader.specs.declared.Reason.TheVariants as reason
 use Rattle.jser_reader.specs.declared.Refusal.{Refusal}
@@ -9,9 +10,9 @@ use Rattle.jser_check.specs.declared.Options.{Options}
 use Rattle.jser_grammar.specs.Parts.{IsBytes}
 use Rattle.jser_check.specs.Admitted.{gate_of_filter}
 use Rattle.jser_check.specs.Answers.{CarriesFirst, Reports, Refuses}
-use Rattle.jser_check_anywhere.specs.Answers.{ReportsAnywhere}
-use Rattle.jser_check_anywhere.specs.SourceAnswers.{RefusedIn, HiddenIn}
-use Rattle.jser_check_anywhere.specs.Passing.{passes_name}
+use Rattle.jser_check.specs.Pieces.{ReportsAnywhere}
+use Rattle.jser_check.specs.Reads.{RefusedIn, HiddenIn}
+use Rattle.jser_check.specs.Passing.{asking, passes_name}
 use Rattle.jser_scan.specs.declared.check.Rules.{Rules}
 use Rattle.jser_scan.specs.declared.found.Found.{Found}
 use Rattle.jser_scan.specs.declared.found.Found.TheVariants as found
@@ -23,6 +24,17 @@ options_in rules = record { strict = rules.strict }
 abbrev pub IsRefusedName : Rules → Option (Vec ℕ Global) → Type 0
 IsRefusedName rules None = Unit {0}
 IsRefusedName rules (Some units) = passes_name rules.filter (options_in rules) units.items ≡ false
+
+-- the filter refused a class
+abbrev pub is_of_class : Reason → Bool
+is_of_class reason.ClassRejected = true
+is_of_class reason.ClassUnmatched = true
+is_of_class _ = false
+
+-- a refusal, beside which this name is told
+abbrev pub found_of : Refusal → Result (Option (Vec ℕ Global)) AllocError → Found
+found_of refusal (Ok class) = found.Refused refusal class
+found_of refusal (Err why) = found.OutOfMemory
 
 -- beside a refusal stands such a name where the filter refused it, and none where the reason is another
 abbrev pub IsNameFor : Rules → Reason → Option (Vec ℕ Global) → Type 0
@@ -69,8 +81,8 @@ IsFoundBy rules bytes found.OutOfMemory = Unit {0}
 -- what the check that asks about names at any place says
 abbrev pub IsFoundAnywhere : Rules → List ℕ → Found → Type 0
 IsFoundAnywhere rules bytes (found.Accepted totals) = ReportsAnywhere rules.filter (options_in rules) bytes totals
-IsFoundAnywhere rules bytes (found.Refused refusal class) = RefusedIn rules.filter (options_in rules) bytes refusal × IsNameFor rules refusal.reason class
-IsFoundAnywhere rules bytes (found.Hidden from to class) = HiddenIn rules.filter (options_in rules) bytes from to × IsRefusedName rules class
+IsFoundAnywhere rules bytes (found.Refused refusal class) = RefusedIn (asking rules.filter (options_in rules) true) bytes refusal × IsNameFor rules refusal.reason class
+IsFoundAnywhere rules bytes (found.Hidden from to class) = HiddenIn (asking rules.filter (options_in rules) true) bytes from to × IsRefusedName rules class
 IsFoundAnywhere rules bytes found.NotOpened = ⊥
 IsFoundAnywhere rules bytes (found.NotRead fault) = Unit {0}
 IsFoundAnywhere rules bytes found.OutOfMemory = Unit {0}

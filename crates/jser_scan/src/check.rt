@@ -1,22 +1,21 @@
 //! The check of one file.
-ghost use Rattle.std.specs.Prelude.{◌≢◌, ◌+◌, ◌<◌, ◌^◌, ℕ, List, [], length, IfSome};
+ghost use Rattle.std.specs.Prelude.{◌≡◌, ◌≢◌, ◌⊎◌, ◌+◌, ◌<◌, ◌^◌, ℕ, List, [], length, IfSome};
 ghost use Rattle.jser_grammar.specs.Caps.{most_bytes};
 ghost use Rattle.jser_check.specs.Sources.{TakesAtMost};
 ghost use Rattle.jser_scan.specs.Devices.{KeepsEnd};
-ghost use Rattle.jser_scan.specs.Founds.{FailsAs, IsFound, IsFoundAnywhere, IsFoundBy, IsHidden, IsRefusal, NamesFirst};
+ghost use Rattle.jser_scan.specs.Founds.{FailsAs, IsFound, IsFoundAnywhere, IsFoundBy, IsHidden, IsRefusal, NamesFirst, found_of, is_of_class};
 ghost use Rattle.jser_scan.specs.LastSeen.{AreLast, KeepsEndOfFront};
-ghost use Rattle.jser_scan.specs.NamePlaces.{NameStands};
+ghost use Rattle.jser_scan.specs.NamePlaces.{NameStands, TellsHidden, TellsName};
 
-use crate::class::{hidden_name, refused_name};
+use crate::class::{hidden_name, name_in, refused_name};
 use crate::found::Found;
 use crate::last::LastBytes;
 use crate::tail::Tail;
-use jser_check::{CheckFault, Options, Stop, check_reader};
-use jser_check_anywhere::{AnywhereFault, check_anywhere};
+use jser_check::{AnywhereFault, CheckFault, Options, Stop, check_anywhere, check_reader};
 use jser_filter::Filter;
 use jser_inputs::Input;
 use jser_reader::{Reason, Refusal};
-use std::alloc::Global;
+use std::alloc::{AllocError, Global};
 
 /// What files are checked under.
 #[derive(Debug, Drop)]
@@ -29,7 +28,7 @@ pub struct Rules {
     pub anywhere: bool,
 }
 
-/// Checks the bytes of a file, as `check_reader` of `jser_check` does, or `check_anywhere` of `jser_check_anywhere`.
+/// Checks the bytes of a file, as `check_reader` of `jser_check` does, or `check_anywhere`.
 ///
 /// It keeps the last bytes that it read, at most some 250,000, and copies those of the refused class's name. It gives the input
 /// back.
@@ -48,16 +47,21 @@ pub fn check_file<R: Input + Drop>(alloc: Global, rules: &Rules, input: R) -> (F
 /// Checks the bytes of a file as `check_file` does, and keeps all that it reads, where there is memory for them. These are the
 /// first bytes of the file: where it is refused, not all of them were read.
 #[tactic(auto, using(crate::proofs::FoundLemmas::not_unopened))]
-pub fn check_keeping<R: Input + Drop>(alloc: Global, rules: &Rules, input: R) -> (Found, LastBytes)
+pub fn check_keeping<R: Input + Drop>(
+    alloc: Global,
+    rules: &Rules,
+    input: R,
+) -> (Found, R, LastBytes)
     ensures found { IfSome (R.to_come input) (λ bytes. IsFound rules.now bytes result.0) }
     ensures first { IfSome (R.to_come input) (λ bytes. NamesFirst rules.now bytes result.0) }
     ensures opened { result.0 ≢ Found.NotOpened }
-    ensures kept { IfSome (R.to_come input) (λ bytes. KeepsEndOfFront result.1 bytes) }
+    ensures fails { FailsAs result.0 (R.has_failed input) (R.has_failed result.1) (R.why_failed result.1) }
+    ensures kept { IfSome (R.to_come input) (λ bytes. KeepsEndOfFront result.2 bytes) }
 {
     let mut tail = Tail::new(input, LastBytes::all(alloc));
     let found = check_tail(alloc, rules, &mut tail);
-    let (_input, last) = tail.into_parts();
-    (found, last)
+    let (input, last) = tail.into_parts();
+    (found, input, last)
 }
 
 /// The check that is asked for.
@@ -134,27 +138,65 @@ fn check_names<R: Input>(alloc: Global, rules: &Rules, tail: &mut Tail<R>) -> Fo
     }
 }
 
-/// A refusal of a stream with these last bytes, with the class name where the filter refused one.
+/// A refusal of a stream with these last bytes, with the class name where the filter refused one and its bytes are still kept.
+#[tactic(auto, using(crate::proofs::NameLemmas::is_refusal, crate::proofs::NameLemmas::names_refusal))]
 pub fn refused(alloc: Global, rules: &Rules, last: &LastBytes, refusal: Refusal) -> Found
     ensures is { IsRefusal rules.now refusal result }
     ensures name { (bytes : List ℕ) → AreLast last.now bytes → length bytes < 2 ^ 64 → NameStands bytes result }
+    ensures told { (bytes : List ℕ) → AreLast last.now bytes → length bytes < 2 ^ 64
+        → (refusal.from_byte + 2 + length last.now.kept < length bytes) ⊎ TellsName rules.now bytes result }
 {
-    let class = match refusal.reason {
-        Reason::ClassRejected | Reason::ClassUnmatched => {
-            refused_name(alloc, rules, last, refusal.from_byte, refusal.to_byte)
-        }
-        _ => Ok(None),
-    };
+    if !is_of_class(refusal.reason) {
+        return Found::Refused {
+            refusal,
+            class: None,
+        };
+    }
+    let class = refused_name(alloc, rules, last, refusal.from_byte, refusal.to_byte);
+    found_of(refusal, class)
+}
+
+/// A refusal of these bytes, with the class name where the filter refused one.
+#[tactic(auto, using(crate::proofs::NameLemmas::is_refusal, crate::proofs::NameLemmas::names_refusal, crate::proofs::NameLemmas::tells_in))]
+pub fn refused_in(alloc: Global, rules: &Rules, bytes: &[u8], refusal: Refusal) -> Found
+    ensures is { IsRefusal rules.now refusal result }
+    ensures name { NameStands bytes.now result }
+    ensures told { TellsName rules.now bytes.now result }
+{
+    if !is_of_class(refusal.reason) {
+        return Found::Refused {
+            refusal,
+            class: None,
+        };
+    }
+    let class = name_in(alloc, rules, bytes, refusal.from_byte, refusal.to_byte);
+    found_of(refusal, class)
+}
+
+/// Whether the filter refused a class.
+fn is_of_class(reason: Reason) -> bool
+    ensures { result ≡ is_of_class reason }
+{
+    matches!(reason, Reason::ClassRejected | Reason::ClassUnmatched)
+}
+
+/// What is found of a refusal, beside which this class name is told.
+fn found_of(refusal: Refusal, class: Result<Option<Vec<u16>>, AllocError>) -> Found
+    ensures { result ≡ found_of refusal class }
+{
     match class {
         Ok(class) => Found::Refused { refusal, class },
         Err(_) => Found::OutOfMemory,
     }
 }
 
-/// A name in a stream with these last bytes that can be read at some place, and that does not pass.
+/// A name in a stream with these last bytes that can be read at some place, and that does not pass: with its class, where its bytes
+/// are still kept.
 pub fn hidden(alloc: Global, rules: &Rules, last: &LastBytes, from_byte: u64, to_byte: u64) -> Found
     ensures is { IsHidden rules.now from_byte to_byte result }
     ensures name { (bytes : List ℕ) → AreLast last.now bytes → length bytes < 2 ^ 64 → NameStands bytes result }
+    ensures told { (bytes : List ℕ) → AreLast last.now bytes → length bytes < 2 ^ 64
+        → (from_byte + length last.now.kept < length bytes) ⊎ TellsHidden rules.now bytes result }
 {
     match hidden_name(alloc, rules, last, from_byte, to_byte) {
         Ok(class) => Found::Hidden {

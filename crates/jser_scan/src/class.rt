@@ -1,16 +1,16 @@
-//! The class name that a filter refused, from the last bytes of a stream.
-ghost use Rattle.std.specs.Prelude.{◌≡◌, ◌+◌, ◌<◌, ◌^◌, ℕ, List, length, IfOk, IfSome};
-ghost use Rattle.jser_prim.specs.ModifiedUtf8.{modified_utf8};
-ghost use Rattle.jser_anywhere.specs.NamesIn.{class_in};
+//! The class name that a filter refused, from the bytes of a stream or the last of them.
+ghost use Rattle.std.specs.Prelude.{◌≡◌, ◌⊎◌, ◌+◌, ◌<◌, ◌^◌, ℕ, List, Ok, None, true, length, IfOk, IfSome};
+ghost use Rattle.jser_prim.specs.ModifiedUtf8.{IsUnits, modified_utf8};
 ghost use Rattle.jser_anywhere.specs.Standing.{StandsAt};
-ghost use Rattle.jser_scan.specs.Founds.{IsRefusedName};
+ghost use Rattle.jser_check.specs.Passing.{passes_name};
+ghost use Rattle.jser_scan.specs.Founds.{IsRefusedName, options_in};
 ghost use Rattle.jser_scan.specs.LastSeen.{AreLast, StandsBetween};
+ghost use Rattle.jser_scan.specs.NamePlaces.{HidesNone, SpellsNone};
 
 use crate::check::Rules;
 use crate::last::LastBytes;
-use jser_anywhere::Names;
-use jser_check::Options;
-use jser_check_anywhere::passes;
+use jser_anywhere::whole_class;
+use jser_check::{Options, passes};
 use jser_prim::read_units;
 use std::alloc::{AllocError, Global};
 
@@ -26,6 +26,8 @@ pub(crate) fn refused_name(
     ensures refused { IfOk result (IsRefusedName rules.now) }
     ensures stands { (bytes : List ℕ) → AreLast last.now bytes → length bytes < 2 ^ 64
         → IfOk result (λ class. IfSome class (λ units. StandsBetween bytes (from + 2) to (modified_utf8 units.items))) }
+    ensures none { result ≡ Ok None → (bytes : List ℕ) → AreLast last.now bytes → length bytes < 2 ^ 64
+        → (from + 2 + length last.now.kept < length bytes) ⊎ SpellsNone rules.now bytes from to }
 {
     if last.ran_out() {
         return Err(AllocError);
@@ -33,12 +35,57 @@ pub(crate) fn refused_name(
     let Some(start) = from.checked_add(2) else {
         return Ok(None);
     };
-    let Some(text) = last.part(alloc, start, to)? else {
-        return Ok(None);
-    };
-    match text_units(alloc, text.as_slice())? {
-        Some(units) => Ok(if_refused(rules, units)),
+    match last.part(alloc, start, to)? {
+        Some(text) => refused_text(alloc, rules, text.as_slice()),
         None => Ok(None),
+    }
+}
+
+/// The text of a token in these bytes that has a length of two bytes before it, if the filter refuses that name.
+#[tactic(auto, using(crate::proofs::NameLemmas::token_named))]
+pub(crate) fn name_in(
+    alloc: Global,
+    rules: &Rules,
+    bytes: &[u8],
+    from: u64,
+    to: u64,
+) -> Result<Option<Vec<u16>>, AllocError>
+    ensures refused { IfOk result (IsRefusedName rules.now) }
+    ensures stands { IfOk result (λ class. IfSome class (λ units. StandsBetween bytes.now (from + 2) to (modified_utf8 units.items))) }
+    ensures none { result ≡ Ok None → SpellsNone rules.now bytes.now from to }
+{
+    match text_in(bytes, from, to) {
+        Some(text) => refused_text(alloc, rules, text),
+        None => Ok(None),
+    }
+}
+
+/// The bytes of such a token behind its length, if they are there.
+fn text_in(bytes: &[u8], from: u64, to: u64) -> Option<&[u8]>
+    ensures text { IfSome result (λ text. StandsBetween bytes.now (from + 2) to text.now) }
+    ensures none { result ≡ None → (text : List ℕ) → StandsBetween bytes.now (from + 2) to text → ⊥ }
+{
+    let start = from.saturating_add(2);
+    if start > to || to > bytes.len() as u64 {
+        return None;
+    }
+    let (front, _) = bytes.split_at(to as usize);
+    let (_, text) = front.split_at(start as usize);
+    Some(text)
+}
+
+/// The name that a text spells, if it spells one and the filter refuses it.
+fn refused_text(alloc: Global, rules: &Rules, text: &[u8]) -> Result<Option<Vec<u16>>, AllocError>
+    ensures refused { IfOk result (IsRefusedName rules.now) }
+    ensures spelled { IfOk result (λ class. IfSome class (λ units. modified_utf8 units.items ≡ text.now)) }
+    ensures none { result ≡ Ok None → (units : List ℕ) → IsUnits units → modified_utf8 units ≡ text.now
+        → passes_name rules.now.filter (options_in rules.now) units ≡ true }
+{
+    let mut units = Vec::new(alloc);
+    if read_units(text, &mut units)? {
+        Ok(if_refused(rules, units))
+    } else {
+        Ok(None)
     }
 }
 
@@ -54,6 +101,8 @@ pub(crate) fn hidden_name(
     ensures refused { IfOk result (IsRefusedName rules.now) }
     ensures stands { (bytes : List ℕ) → AreLast last.now bytes → length bytes < 2 ^ 64
         → IfOk result (λ class. IfSome class (λ units. StandsAt bytes from to units.items)) }
+    ensures none { result ≡ Ok None → (bytes : List ℕ) → AreLast last.now bytes → length bytes < 2 ^ 64
+        → (from + length last.now.kept < length bytes) ⊎ HidesNone rules.now bytes from to }
 {
     if last.ran_out() {
         return Err(AllocError);
@@ -71,6 +120,7 @@ pub(crate) fn hidden_name(
 fn if_refused(rules: &Rules, name: Vec<u16>) -> Option<Vec<u16>>
     ensures refused { IsRefusedName rules.now result }
     ensures same { IfSome result (λ told. told.items ≡ name.items) }
+    ensures none { result ≡ None → passes_name rules.now.filter (options_in rules.now) name.items ≡ true }
 {
     let options = Options {
         strict: rules.strict,
@@ -80,41 +130,4 @@ fn if_refused(rules: &Rules, name: Vec<u16>) -> Option<Vec<u16>>
     } else {
         Some(name)
     }
-}
-
-/// The units that the bytes spell in modified UTF-8, if they spell any.
-fn text_units(alloc: Global, text: &[u8]) -> Result<Option<Vec<u16>>, AllocError>
-    ensures { IfOk result (λ found. IfSome found (λ units. modified_utf8 units.items ≡ text.now)) }
-{
-    let mut units = Vec::new(alloc);
-    if read_units(text, &mut units)? {
-        Ok(Some(units))
-    } else {
-        Ok(None)
-    }
-}
-
-/// The class of the name that can be read at the first byte and ends with the last, if there is one.
-#[tactic(auto, using(crate::proofs::NameLemmas::names_open))]
-fn whole_class(alloc: Global, part: &[u8]) -> Result<Option<Vec<u16>>, AllocError>
-    ensures { IfOk result (λ found. IfSome found (λ class. StandsAt part.now 0 (length part.now) class.items)) }
-{
-    let mut names = Names::new(part);
-    'names: while let Some(stand) = names.next() {
-        if stand.from > 0 {
-            return Ok(None);
-        }
-        if stand.to == part.len() {
-            return class_told(alloc, &names);
-        }
-    }
-    Ok(None)
-}
-
-/// The class of the name that was told last.
-fn class_told(alloc: Global, names: &Names<'_>) -> Result<Option<Vec<u16>>, AllocError>
-    ensures { IfOk result (λ found. IfSome found (λ class. class.items ≡ class_in names.now.last)) }
-{
-    let class = names.units().to_vec(alloc)?;
-    Ok(Some(class))
 }

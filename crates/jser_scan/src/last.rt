@@ -1,5 +1,5 @@
 //! The last bytes of a stream, in which the name of a refused class is looked up; or all its bytes.
-ghost use Rattle.std.specs.Prelude.{◌≡◌, ◌++◌, ◌-◌, ◌<◌, ◌^◌, ◌≤◌, ℕ, List, [], length, take, drop, IfOk, OnOk, IfSome};
+ghost use Rattle.std.specs.Prelude.{◌≡◌, ◌⊎◌, ◌++◌, ◌+◌, ◌-◌, ◌<◌, ◌^◌, ◌≤◌, ℕ, List, [], length, take, drop, Ok, None, IfOk, OnOk, IfSome};
 
 use std::alloc::{AllocError, Global};
 use std::marker::Model;
@@ -93,8 +93,10 @@ impl LastBytes {
         start: u64,
         end: u64,
     ) -> Result<Option<Vec<u8>>, AllocError>
-        ensures { IfOk result (λ found. IfSome found (λ part. (bytes : List ℕ) → AreLast self.now bytes → length bytes < 2 ^ 64
+        ensures stands { IfOk result (λ found. IfSome found (λ part. (bytes : List ℕ) → AreLast self.now bytes → length bytes < 2 ^ 64
             → StandsBetween bytes start end part.items)) }
+        ensures none { result ≡ Ok None → (bytes : List ℕ) → AreLast self.now bytes → length bytes < 2 ^ 64
+            → (start + length self.now.kept < length bytes) ⊎ ((part : List ℕ) → StandsBetween bytes start end part → ⊥) }
     {
         let older = self.older.len() as u64;
         let newer = self.newer.len() as u64;

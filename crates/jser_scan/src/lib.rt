@@ -21,7 +21,7 @@ mod tally;
 mod unopened;
 
 pub use answer::{write_answer, write_count};
-pub use check::{Rules, check_file, check_keeping, hidden, refused};
+pub use check::{Rules, check_file, check_keeping, hidden, refused, refused_in};
 pub use found::Found;
 pub use json::write_members;
 pub use last::LastBytes;

@@ -115,6 +115,7 @@ fn write_found<W: Sink>(outbox: &mut Outbox, sink: &mut W, how: How, path: &File
 /// `Failed` where the sink failed.
 pub fn print_summary<E: Sink>(tally: Tally, faults: &mut E) -> Result<(), Failed>
     ensures printed { OnOk result (Appends (E.gone_out faults.old) (E.gone_out faults.new) (summary_words tally [])) }
+    ensures kept { OnOk result (E.has_failed faults.new ≡ E.has_failed faults.old) }
     ensures failed { OnErr result (E.has_failed faults.new ≡ true) }
 {
     print_counts(b" files, ", tally, faults)
@@ -128,6 +129,7 @@ pub fn print_summary<E: Sink>(tally: Tally, faults: &mut E) -> Result<(), Failed
 #[tactic(auto, using(crate::proofs::ScanLemmas::went, crate::proofs::ScanLemmas::broke, crate::proofs::ScanLemmas::kept))]
 pub fn print_counts<E: Sink>(things: &[u8], tally: Tally, faults: &mut E) -> Result<(), Failed>
     ensures printed { OnOk result (Appends (E.gone_out faults.old) (E.gone_out faults.new) (counted_words things.now tally [])) }
+    ensures kept { OnOk result (E.has_failed faults.new ≡ E.has_failed faults.old) }
     ensures failed { OnErr result (E.has_failed faults.new ≡ true) }
 {
     let mut outbox = Outbox::new();

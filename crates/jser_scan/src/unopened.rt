@@ -2,12 +2,11 @@
 ghost use Rattle.std.specs.Prelude.{◌≡◌, ◌⊎◌, ◌++◌, [], OnOk, OnErr, true};
 ghost use Rattle.std.specs.Io.KnownBytes.{Appends};
 ghost use Rattle.jser_printer.specs.Says.{SaysTo};
-ghost use Rattle.jser_scan.specs.Paths.{unopened_words};
+ghost use Rattle.jser_scan.specs.Paths.{told_words, unopened_words};
 
-use crate::line::write_path;
-use crate::path::FilePath;
+use crate::path::{FilePath, is_told};
 use jser_prim::{Failed, Outbox, Sink};
-use jser_printer::write;
+use jser_printer::{write, write_quoted};
 
 /// Tells that a file cannot be opened, as far as that can be done.
 pub fn tell_unopened<E: Sink>(path: &FilePath, faults: &mut E)
@@ -37,6 +36,17 @@ fn write_unopened<W: Sink>(outbox: &mut Outbox, sink: &mut W, path: &FilePath)
     ensures { SaysTo W.gone_out W.has_failed outbox.old outbox.new sink.old sink.new (λ k. unopened_words path.now k) }
 {
     write(outbox, sink, b"cannot open ");
-    write_path(outbox, sink, path);
+    write_told(outbox, sink, path);
     write(outbox, sink, b"\n");
+}
+
+/// Writes a path as it was given, where that can be seen.
+fn write_told<W: Sink>(outbox: &mut Outbox, sink: &mut W, path: &FilePath)
+    ensures { SaysTo W.gone_out W.has_failed outbox.old outbox.new sink.old sink.new (λ k. told_words path.now k) }
+{
+    if is_told(path.text.as_str()) {
+        write(outbox, sink, path.text.as_bytes());
+    } else {
+        write_quoted(outbox, sink, path.units.as_slice());
+    }
 }

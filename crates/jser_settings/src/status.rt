@@ -24,6 +24,7 @@ pub const CUT: u8 = 4;
 pub fn tell_failure<E: Sink>(faults: &mut E, line: &str) -> u8
     ensures status { result ≡ 3 }
     ensures told { Tells (E.has_failed faults.new) (E.gone_out faults.old) (E.gone_out faults.new) line.now }
+    ensures kept { (E.has_failed faults.new ≡ true) ⊎ (E.has_failed faults.new ≡ E.has_failed faults.old) }
 {
     let _ = give_all(faults, line.as_bytes());
     FAILED

@@ -23,7 +23,8 @@ impl Model for Codes {
 }
 
 impl Codes {
-    /// These codes. Takes no memory.
+    /// These codes, of which there are at most 32,767: a descriptor has no more fields (specification, section 6.4.2).
+    /// Takes no memory.
     pub fn new(codes: Vec<u8>) -> Codes
         requires { length codes.items < 2 ^ 15 }
         ensures { result ≡ codes.items }

@@ -180,8 +180,8 @@ impl Table {
         self.chains.count()
     }
 
-    /// Closes a pending entry: it has this layer over the chain of the parent, if there is one. Takes no
-    /// memory.
+    /// Closes a pending entry: it has this layer over the chain of the parent, if there is one. It asks nothing of the
+    /// layer; that `Codes::new` takes at most 32,767 codes is the format's own bound. Takes no memory.
     pub fn close(&mut self, number: u32, layer: Layer, parent: Option<u32>)
         requires pending { IsTrue (is_pending (slice_get self.old.entries number)) }
         requires parent { ForSome parent (λ p. IsTrue (is_closed (slice_get self.old.entries p))) }

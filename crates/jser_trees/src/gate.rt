@@ -2,7 +2,7 @@
 ghost use Rattle.std.specs.Prelude.{◌≡◌};
 
 use jser_grammar::caps::{MOST_TREE_BYTES, MOST_TREE_DEPTH};
-use jser_reader::{Answer, Gate, Limits};
+use jser_reader::{Answer, Gate};
 use std::marker::Model;
 
 /// A gate with its limits of bytes and depth lowered.
@@ -37,13 +37,24 @@ impl<'g, G: Gate> Gate for TreeGate<'g, G> {
         self.gate.name(name)
     }
 
-    fn limits(&self) -> Limits {
-        let limits = self.gate.limits();
-        Limits {
-            bytes: limits.bytes.min(MOST_TREE_BYTES),
-            depth: limits.depth.min(MOST_TREE_DEPTH),
-            ..limits
-        }
+    fn max_bytes(&self) -> u64 {
+        self.gate.max_bytes().min(MOST_TREE_BYTES)
+    }
+
+    fn max_depth(&self) -> u32 {
+        self.gate.max_depth().min(MOST_TREE_DEPTH)
+    }
+
+    fn max_refs(&self) -> u64 {
+        self.gate.max_refs()
+    }
+
+    fn max_array(&self) -> u32 {
+        self.gate.max_array()
+    }
+
+    fn max_handles(&self) -> u32 {
+        self.gate.max_handles()
     }
 
     ghost within = { λ gate. lowered_is_gate (G.told gate) most_tree_bytes most_tree_depth (G.within gate) };

@@ -74,7 +74,8 @@ fn explain_under<W: Sink, E: Sink>(
     match Opened::new(rt, file) {
         Ok(opened) => {
             let input = Decoded::new(FromRead::new(opened), form);
-            explain(alloc, rules, text, input, output, faults)
+            let (status, _input) = explain(alloc, rules, text, input, output, faults);
+            status
         }
         Err(_) => tell_unopened(alloc, file, faults),
     }

@@ -29,7 +29,7 @@ use crate::number::number_from_one;
 use crate::records::check_records;
 use crate::scan::{Task, scan_paths};
 use crate::suggest::suggest_from;
-use jser_commands::{Job, run};
+use jser_commands::{Job, run_input};
 use jser_filter::Filter;
 use jser_inputs::{Decoded, Form, Input};
 use jser_line::{Clash, Filters, Line, LineFault, line_of, printable};
@@ -425,7 +425,7 @@ fn on_input<R: Input, W: Sink, E: Sink>(
     ensures unbroken { result ≢ 3 → W.has_failed output.new ≡ W.has_failed output.old }
     ensures misuse { result ≢ 2 }
 {
-    run(alloc, job, input, output, faults)
+    run_input(alloc, job, input, output, faults)
 }
 
 /// Tells that a file cannot be opened, and returns the status of a failure.

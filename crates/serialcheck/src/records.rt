@@ -78,8 +78,8 @@ fn check_under<W: Sink, E: Sink>(
     let alloc = rt.alloc();
     match Opened::new(rt, file) {
         Ok(opened) => {
-            let source = FromRead::new(Counted::new(opened, progress));
-            run_records(alloc, rules, asked, source, output, faults)
+            let mut source = FromRead::new(Counted::new(opened, progress));
+            run_records(alloc, rules, asked, &mut source, output, faults)
         }
         Err(_) => {
             let status = tell_unopened(alloc, file, faults);

@@ -10,7 +10,7 @@ use Rattle.jser_anywhere.specs.Standing.{AllPass, IsFirstHidden, StandsAt}
 use Rattle.jser_filter.specs.Filters.{FilterView}
 use Rattle.jser_check.specs.declared.Options.{Options}
 use Rattle.jser_check.specs.Admitted.{gate_of_filter}
-use Rattle.jser_check_anywhere.specs.Passing.{NamesAreJudged, passes_as, passes_name}
+use Rattle.jser_check.specs.Passing.{NamesAreJudged, passes_as, passes_name}
 use Rattle.jser_table.specs.Names.{NameKind, plain_name, array_name, malformed_name, name_kind, view_kind}
 use Rattle.jser_verdict.specs.Gates.{Answer, is_pass}
 

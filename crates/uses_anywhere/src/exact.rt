@@ -1,10 +1,9 @@
 //! Yes exactly where the filter admits the bytes with each name that stands anywhere.
 ghost use Rattle.std.specs.Prelude.{◌≡◌, ◌≢◌, ◌↔◌, IfOk, IfSome, true};
 ghost use Rattle.jser_anywhere.specs.Standing.{AllPass};
-ghost use Rattle.jser_check_anywhere.specs.Passing.{AreAdmittedAnywhere, passes_name};
+ghost use Rattle.jser_check.specs.Passing.{AreAdmittedAnywhere, passes_name};
 
-use jser_check::Options;
-use jser_check_anywhere::{AnywhereFault, check_anywhere};
+use jser_check::{AnywhereFault, Options, check_anywhere};
 use jser_filter::Filter;
 use jser_prim::Source;
 use jser_reader::{Reason, Stop};

@@ -1,12 +1,12 @@
 //! Streams that come one after another, whole or in pieces.
 ghost use Rattle.std.specs.Prelude.{◌≡◌, ◌++◌, ℕ, List, Some, Err, IfOk, IfSome, true, string_bytes};
-ghost use Rattle.jser_check_anywhere.specs.declared.AnywhereFault.{AnywhereFault};
-ghost use Rattle.jser_check_anywhere.specs.Answers.{AreUndecided, HasTaken, ReportsAnywhere};
-ghost use Rattle.jser_check_anywhere.specs.FaultTexts.{anywhere_fault_text};
-ghost use Rattle.jser_check_anywhere.specs.Joins.{repeated};
+ghost use Rattle.jser_check.specs.declared.AnywhereFault.{AnywhereFault};
+ghost use Rattle.jser_check.specs.Passing.{asking};
+ghost use Rattle.jser_check.specs.Pieces.{AreUndecided, HasTaken, ReportsAnywhere, ReportsBy, asked_by};
+ghost use Rattle.jser_check.specs.AnywhereTexts.{anywhere_fault_text};
+ghost use Rattle.jser_check.specs.Joins.{repeated};
 
-use jser_check::Options;
-use jser_check_anywhere::{AnywhereChecker, AnywhereFault};
+use jser_check::{AnywhereChecker, AnywhereFault, Check, Checker, HeldGate, Options, Stop};
 use jser_filter::Filter;
 use jser_reader::Totals;
 use std::alloc::{AllocError, Global};
@@ -17,17 +17,12 @@ use std::alloc::{AllocError, Global};
 ///
 /// As `feed` and `finish` of `AnywhereChecker`.
 #[tactic(auto, using(crate::proofs::ExactLemmas::reports_end))]
-pub fn check_message<'f>(
-    checker: &mut AnywhereChecker<'f>,
-    message: &[u8],
-) -> Result<Totals, AnywhereFault>
-    ensures accepted { IfOk result (ReportsAnywhere checker.old.reader.gate.filter checker.old.reader.gate.options message.now) }
+pub fn check_message(checker: &mut AnywhereChecker, message: &[u8]) -> Result<Totals, AnywhereFault>
+    ensures accepted { IfOk result (ReportsBy (asked_by checker.old) message.now) }
+    ensures asks { asked_by checker.new ≡ asked_by checker.old }
 {
     checker.restart();
-    match checker.feed(message) {
-        Ok(()) => checker.finish(),
-        Err(fault) => Err(fault),
-    }
+    checker.answer(message)
 }
 
 /// Checks a message that came whole, under a filter that is another's.
@@ -44,7 +39,9 @@ pub fn check_one(
 ) -> Result<Totals, AnywhereFault>
     ensures accepted { IfOk result (ReportsAnywhere filter.now options message.now) }
 {
-    let mut checker = AnywhereChecker::lent(alloc, filter, options);
+    let Ok(mut checker) = Check::under(alloc, HeldGate::new(filter, options), true) else {
+        return Err(AnywhereFault::Stop(Stop::OutOfMemory));
+    };
     match checker.feed(message) {
         Ok(()) => checker.finish(),
         Err(fault) => Err(fault),
@@ -52,28 +49,35 @@ pub fn check_one(
 }
 
 /// Checks a message that came whole under a filter of its own, and gives the check for the next messages too.
+///
+/// # Errors
+///
+/// Where there is no memory for the check.
 #[tactic(auto, using(crate::proofs::ExactLemmas::reports_end))]
-pub fn check_first<'f>(
+pub fn check_first(
     alloc: Global,
     filter: Filter,
     options: Options,
     message: &[u8],
-) -> (AnywhereChecker<'f>, Result<Totals, AnywhereFault>)
-    ensures gate { (result.0.reader.gate.filter ≡ filter) × (result.0.reader.gate.options ≡ options) }
-    ensures accepted { IfOk result.1 (ReportsAnywhere filter options message.now) }
+) -> Result<(AnywhereChecker, Result<Totals, AnywhereFault>), AllocError>
+    ensures asks { IfOk result (λ both. asked_by both.0 ≡ asking filter options true) }
+    ensures accepted { IfOk result (λ both. IfOk both.1 (ReportsAnywhere filter options message.now)) }
 {
-    let mut checker = AnywhereChecker::new(alloc, filter, options);
+    let mut checker = match Checker::new_anywhere(alloc, filter, options) {
+        Ok(checker) => checker,
+        Err(failed) => return Err(failed),
+    };
     let answer = match checker.feed(message) {
         Ok(()) => checker.finish(),
         Err(fault) => Err(fault),
     };
-    (checker, answer)
+    Ok((checker, answer))
 }
 
 /// Takes the piece, and returns whether the stream may go on.
-pub fn may_go_on<'f>(checker: &mut AnywhereChecker<'f>, piece: &[u8]) -> bool
+pub fn may_go_on(checker: &mut AnywhereChecker, piece: &[u8]) -> bool
     ensures takes { (taken : List ℕ) → HasTaken checker.old taken → result ≡ true → HasTaken checker.new (taken ++ piece.now) }
-    ensures undecided { (taken : List ℕ) → HasTaken checker.old taken → result ≡ true → AreUndecided checker.old.reader.gate.filter checker.old.reader.gate.options (taken ++ piece.now) }
+    ensures undecided { (taken : List ℕ) → HasTaken checker.old taken → result ≡ true → AreUndecided (asked_by checker.old) (taken ++ piece.now) }
 {
     match checker.feed(piece) {
         Ok(()) => true,
@@ -82,8 +86,8 @@ pub fn may_go_on<'f>(checker: &mut AnywhereChecker<'f>, piece: &[u8]) -> bool
 }
 
 /// What a check that has stopped answers to a piece and then at the end.
-pub fn answers_again<'f>(
-    checker: &mut AnywhereChecker<'f>,
+pub fn answers_again(
+    checker: &mut AnywhereChecker,
     piece: &[u8],
 ) -> (Result<(), AnywhereFault>, Result<Totals, AnywhereFault>)
     ensures { (fault : AnywhereFault) → checker.old.stopped ≡ Some fault → result ≡ (Err fault, Err fault) }
@@ -93,8 +97,8 @@ pub fn answers_again<'f>(
 }
 
 /// Takes the piece; of a fault, that and what the check answers at the end.
-pub fn fault_at_end<'f>(
-    checker: &mut AnywhereChecker<'f>,
+pub fn fault_at_end(
+    checker: &mut AnywhereChecker,
     piece: &[u8],
 ) -> Option<(AnywhereFault, Result<Totals, AnywhereFault>)>
     ensures { (taken : List ℕ) → HasTaken checker.old taken → IfSome result (λ both. both.1 ≡ Err (repeated both.0)) }

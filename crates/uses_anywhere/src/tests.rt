@@ -1,8 +1,7 @@
 //! Names that stand in blocks, in pieces of any sizes.
 
 use crate::tests::asserted::{holds, same};
-use jser_check::{Options, Reason, Stop};
-use jser_check_anywhere::{AnywhereChecker, AnywhereFault};
+use jser_check::{AnywhereChecker, AnywhereFault, Options, Reason, Stop};
 use jser_filter::Filter;
 use std::alloc::AllocGlobal;
 use std::process::Abort;
@@ -17,19 +16,18 @@ const CLASS_A: &[u8] =
     b"\xAC\xED\x00\x05\x76\x72\x00\x01a\x00\x00\x00\x00\x00\x00\x00\x01\x02\x00\x00\x78\x70";
 
 /// The check under a filter.
-fn checker_of<'f>(rt: &(impl Abort + AllocGlobal), text: &str) -> AnywhereChecker<'f> {
-    match Filter::parse(rt.alloc(), text) {
-        Ok(filter) => AnywhereChecker::new(rt.alloc(), filter, Options { strict: false }),
-        Err(_) => panic!(rt; "no filter, or no memory"),
+fn checker_of(rt: &(impl Abort + AllocGlobal), text: &str) -> AnywhereChecker {
+    let Ok(filter) = Filter::parse(rt.alloc(), text) else {
+        panic!(rt; "no filter, or no memory");
+    };
+    match AnywhereChecker::new(rt.alloc(), filter, Options { strict: false }) {
+        Ok(checker) => checker,
+        Err(_) => panic!(rt; "no memory"),
     }
 }
 
 /// The first fault of these bytes in pieces of this size, if there is one.
-fn fault_of<'f>(
-    checker: &mut AnywhereChecker<'f>,
-    bytes: &[u8],
-    size: usize,
-) -> Option<AnywhereFault> {
+fn fault_of(checker: &mut AnywhereChecker, bytes: &[u8], size: usize) -> Option<AnywhereFault> {
     checker.restart();
     for piece in bytes.chunks(size.max(1)) {
         if let Err(fault) = checker.feed(piece) {

@@ -1,7 +1,7 @@
 //! Where a caller cuts: a stream and other bytes behind it, and streams one after another.
 ghost use Rattle.std.specs.Prelude.{◌≡◌, ◌<◌, ◌≤◌, ◌++◌, ℕ, List, length, take, drop, IfSome};
 ghost use Rattle.jser_check.specs.Admitted.{AreAdmitted};
-ghost use Rattle.jser_check.specs.Checks.{HasTaken};
+ghost use Rattle.jser_check.specs.Pieces.{HasTaken};
 ghost use Rattle.jser_check.specs.Fronts.{IsFront};
 
 use jser_check::{Checker, Options, Stop, judge_bytes};
@@ -39,7 +39,7 @@ fn found(whole: u64) -> Option<u64>
 
 /// Takes the piece, and says how many of all bytes that came are whole contents: also where the piece is refused.
 pub fn whole_so_far(checker: &mut Checker, piece: &[u8]) -> Option<u64>
-    ensures { (taken : List ℕ) → HasTaken checker.old taken → IfSome result (IsFront checker.old.gate.filter checker.old.gate.options (taken ++ piece.now)) }
+    ensures { (taken : List ℕ) → HasTaken checker.old taken → IfSome result (IsFront checker.old.reader.gate.filter checker.old.reader.gate.options (taken ++ piece.now)) }
 {
     match checker.feed(piece) {
         Ok(()) => Some(checker.whole()),

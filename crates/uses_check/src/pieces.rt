@@ -2,7 +2,8 @@
 ghost use Rattle.std.specs.Prelude.{◌≡◌, ◌↔◌, ℕ, List, [], ◌++◌, true, false, string_bytes, IfOk, IfErr, IfSome};
 ghost use Rattle.jser_check.specs.Admitted.{AreAdmitted};
 ghost use Rattle.jser_check.specs.Answers.{IfRefused, Reports, Refuses, CarriesFirst, DecideNothing};
-ghost use Rattle.jser_check.specs.Checks.{gate_in, HasTaken, Repeats, IsOver};
+ghost use Rattle.jser_check.specs.Pieces.{gate_in, HasTaken};
+ghost use Rattle.jser_check.specs.Faces.{Repeats, IsOver};
 ghost use Rattle.jser_reader.specs.declared.Refusal.{Refusal};
 ghost use Rattle.jser_check.specs.FaultTexts.{check_fault_text};
 
@@ -13,10 +14,10 @@ use std::alloc::{AllocError, Global};
 /// Checks a message, which came whole, with a checker that has taken nothing: the answer is that of `check_bytes`.
 fn check_first(checker: &mut Checker, message: &[u8]) -> Result<Report, Stop>
     requires { HasTaken checker.old [] }
-    ensures accepted { IfOk result (Reports checker.old.gate.filter checker.old.gate.options message.now) }
-    ensures refused { IfErr result (IfRefused (Refuses checker.old.gate.filter checker.old.gate.options message.now)) }
+    ensures accepted { IfOk result (Reports checker.old.reader.gate.filter checker.old.reader.gate.options message.now) }
+    ensures refused { IfErr result (IfRefused (Refuses checker.old.reader.gate.filter checker.old.reader.gate.options message.now)) }
     ensures first { IfErr result (IfRefused (CarriesFirst (gate_in checker.old) message.now)) }
-    ensures filter { checker.new.gate ≡ checker.old.gate }
+    ensures filter { checker.new.reader.gate ≡ checker.old.reader.gate }
 {
     match checker.feed(message) {
         Ok(()) => checker.finish(),
@@ -49,10 +50,10 @@ pub fn check_alone(
 ///
 /// As `check_bytes`.
 pub fn check_message(checker: &mut Checker, message: &[u8]) -> Result<Report, Stop>
-    ensures accepted { IfOk result (Reports checker.old.gate.filter checker.old.gate.options message.now) }
-    ensures refused { IfErr result (IfRefused (Refuses checker.old.gate.filter checker.old.gate.options message.now)) }
+    ensures accepted { IfOk result (Reports checker.old.reader.gate.filter checker.old.reader.gate.options message.now) }
+    ensures refused { IfErr result (IfRefused (Refuses checker.old.reader.gate.filter checker.old.reader.gate.options message.now)) }
     ensures first { IfErr result (IfRefused (CarriesFirst (gate_in checker.old) message.now)) }
-    ensures filter { checker.new.gate ≡ checker.old.gate }
+    ensures filter { checker.new.reader.gate ≡ checker.old.reader.gate }
 {
     checker.restart();
     check_first(checker, message)
@@ -97,7 +98,7 @@ pub fn refused_at_end(checker: &mut Checker, piece: &[u8]) -> Option<Result<Repo
 pub fn is_whole(checker: &mut Checker) -> bool
     ghost taken: { List ℕ }
     requires { HasTaken checker.old taken }
-    ensures { (result ≡ true) ↔ AreAdmitted checker.old.gate.filter checker.old.gate.options taken }
+    ensures { (result ≡ true) ↔ AreAdmitted checker.old.reader.gate.filter checker.old.reader.gate.options taken }
 {
     match checker.finish() {
         Ok(_) => true,

@@ -3,7 +3,7 @@ ghost use Rattle.std.specs.Prelude.{IfOk};
 ghost use Rattle.jser_reader.specs.Answers.{PassesWith};
 ghost use Rattle.jser_check.specs.Answers.{Reports};
 
-use jser_check::{FilterGate, Holds, Options, Report, Stop};
+use jser_check::{HeldGate, Holds, Options, Report, Stop};
 use jser_filter::Filter;
 use jser_reader::{Gate, Reader};
 use std::alloc::Global;
@@ -22,7 +22,7 @@ pub fn read_admitted(
 ) -> Result<Report, Stop>
     ensures { IfOk result (Reports filter.now options bytes.now) }
 {
-    read_under(alloc, bytes, FilterGate::new(filter, options))
+    read_under(alloc, bytes, HeldGate::new(filter, options))
 }
 
 /// Reads bytes as `read_admitted` does, under the filter that this holds, whoever owns it.
@@ -39,7 +39,7 @@ pub fn read_held<F: Holds + Drop>(
 ) -> Result<Report, Stop>
     ensures { IfOk result (Reports (F.held holder) options bytes.now) }
 {
-    read_under(alloc, bytes, FilterGate::new(holder, options))
+    read_under(alloc, bytes, HeldGate::new(holder, options))
 }
 
 /// The counts of the stream that the bytes are, which passes the gate.

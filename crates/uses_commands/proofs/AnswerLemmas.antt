@@ -12,7 +12,7 @@ use Rattle.jser_shown.specs.Shown.{shown}
 use Rattle.jser_shown.specs.Listed.{listed}
 use Rattle.jser_filter.specs.Filters.{FilterView}
 use Rattle.jser_check.specs.declared.Options.{Options}
-use Rattle.jser_check_anywhere.specs.Passing.{AreAdmittedAnywhere}
+use Rattle.jser_check.specs.Passing.{AreAdmittedAnywhere}
 use Rattle.jser_commands.specs.Lines.{yes_line, listed_anywhere, words_on, options_of, HasLimit, SaysNoAnywhere, SaysAccepted, SaysCut, SaysFailed, SaysRefused}
 use Rattle.jser_commands.specs.declared.Job.{Job}
 use Rattle.jser_commands.specs.declared.Job.TheVariants as job

@@ -8,7 +8,7 @@ use Rattle.jser_grammar.specs.Counts.{content_count, refs_of, depth_of}
 use Rattle.jser_shown.specs.Shown.{shown}
 use Rattle.jser_shown.specs.Listed.{listed}
 use Rattle.jser_check.specs.Admitted.{AreAdmitted}
-use Rattle.jser_check_anywhere.specs.Passing.{AreAdmittedAnywhere}
+use Rattle.jser_check.specs.Passing.{AreAdmittedAnywhere}
 use Rattle.jser_commands.specs.Lines.{CutText, listed_anywhere, options_of, words_on}
 use Rattle.jser_commands.specs.declared.Job.{Job}
 use Rattle.jser_commands.specs.declared.Job.TheVariants as job

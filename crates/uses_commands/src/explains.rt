@@ -1,8 +1,8 @@
 //! What an explanation says of the bytes of an input, where the input tells them.
 ghost use Rattle.std.specs.Prelude.{◌≡◌, ◌≢◌, Some, None, IfSome, true, false};
 ghost use Rattle.std.specs.Io.KnownBytes.{Appends};
-ghost use Rattle.jser_commands.specs.Lines.{SaysRefused};
-ghost use Rattle.jser_explain.specs.Explains.{asked, Explained, LeavesSome, TellsWhy};
+ghost use Rattle.jser_commands.specs.Lines.{SaysRefused, SaysWhy};
+ghost use Rattle.jser_explain.specs.Explains.{asked, Explained, LeavesSome};
 ghost use Rattle.uses_commands.specs.Answers.{EachListPrints, IsNo, IsYes};
 
 use jser_explain::explain;
@@ -22,18 +22,19 @@ pub fn explained<R: Input + Drop, W: Sink, E: Sink>(
     input: R,
     output: &mut W,
     faults: &mut E,
-) -> Option<bool>
-    ensures yes { result ≡ Some true → IfSome (R.to_come input) (IsYes (asked rules.now)) }
-    ensures no { result ≡ Some false → IfSome (R.to_come input) (IsNo (asked rules.now)) }
-    ensures printed { result ≡ Some true → IfSome (R.to_come input) (λ bytes. EachListPrints (asked rules.now) bytes (Appends (W.gone_out output.old) (W.gone_out output.new))) }
-    ensures said { result ≡ Some false → IfSome (R.to_come input) (λ bytes. SaysRefused (asked rules.now) bytes (Explained rules.now bytes (W.gone_out output.old) (W.gone_out output.new))) }
-    ensures failed { result ≡ None → LeavesSome rules.now (R.to_come input) (W.has_failed output.new) (W.gone_out output.old) (W.gone_out output.new) }
-    ensures why { result ≡ None → TellsWhy (W.has_failed output.new) (E.has_failed faults.new) (E.gone_out faults.old) (E.gone_out faults.new) }
-    ensures quiet { result ≢ None → faults.new ≡ faults.old }
-    ensures unbroken { result ≢ None → W.has_failed output.new ≡ W.has_failed output.old }
+) -> (Option<bool>, R)
+    ensures yes { result.0 ≡ Some true → IfSome (R.to_come input) (IsYes (asked rules.now)) }
+    ensures no { result.0 ≡ Some false → IfSome (R.to_come input) (IsNo (asked rules.now)) }
+    ensures printed { result.0 ≡ Some true → IfSome (R.to_come input) (λ bytes. EachListPrints (asked rules.now) bytes (Appends (W.gone_out output.old) (W.gone_out output.new))) }
+    ensures said { result.0 ≡ Some false → IfSome (R.to_come input) (λ bytes. SaysRefused (asked rules.now) bytes (Explained rules.now bytes (W.gone_out output.old) (W.gone_out output.new))) }
+    ensures failed { result.0 ≡ None → LeavesSome rules.now (R.to_come input) (W.has_failed output.new) (W.gone_out output.old) (W.gone_out output.new) }
+    ensures why { result.0 ≡ None → SaysWhy (R.why_failed result.1) (R.has_failed input) (R.has_failed result.1) (W.has_failed output.old) (W.has_failed output.new) (E.has_failed faults.new) (E.gone_out faults.old) (E.gone_out faults.new) }
+    ensures quiet { result.0 ≢ None → faults.new ≡ faults.old }
+    ensures unbroken { result.0 ≢ None → W.has_failed output.new ≡ W.has_failed output.old }
 {
     one_reading();
-    said_of(explain(alloc, rules, text, input, output, faults))
+    let (status, input) = explain(alloc, rules, text, input, output, faults);
+    (said_of(status), input)
 }
 
 /// What the status of an explanation says.

@@ -1,7 +1,7 @@
 //! The jobs of the program and what they set, on worked streams: what goes out, what is told, and the status.
 
 use crate::tests::asserted::same;
-use jser_commands::{Job, run};
+use jser_commands::{Job, run, run_input};
 use jser_filter::Filter;
 use jser_inputs::{Decoded, Form};
 use jser_prim::Source;
@@ -63,10 +63,21 @@ fn list_anywhere(rt: &(impl Abort + AllocGlobal), text: &str) -> Job {
 fn does(rt: &(impl Abort + AllocGlobal), job: &Job, bytes: &[u8], text: &[u8], status: u8) {
     let (mut output, mut faults) = (page(rt), page(rt));
     let mut input = Decoded::new(Pieces::new(bytes, 7), Form::Binary);
-    let found = run(rt.alloc(), job, &mut input, &mut output, &mut faults);
+    let found = run_input(rt.alloc(), job, &mut input, &mut output, &mut faults);
     has(rt, &output, text, "what goes out");
     has(rt, &faults, b"", "what is told");
     same(rt, &found, &status, "the status");
+    let (mut output, mut faults) = (page(rt), page(rt));
+    let found = run(
+        rt.alloc(),
+        job,
+        &mut Pieces::new(bytes, 7),
+        &mut output,
+        &mut faults,
+    );
+    has(rt, &output, text, "what goes out of any source");
+    has(rt, &faults, b"", "what is told of any source");
+    same(rt, &found, &status, "the status of any source");
 }
 
 /// The job on this source ends with status 3, after this text went out to a page with so much room, and this line was told.
@@ -79,7 +90,7 @@ fn fails<R: Source + Drop>(
     line: &[u8],
 ) {
     let (mut output, mut faults) = (Page::new(rt.alloc(), 4096, room), page(rt));
-    let mut input = Decoded::new(source, Form::Binary);
+    let mut input = source;
     let found = run(rt.alloc(), job, &mut input, &mut output, &mut faults);
     has(rt, &output, text, "what goes out");
     has(rt, &faults, line, "what is told");

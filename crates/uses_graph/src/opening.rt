@@ -22,7 +22,7 @@ pub struct NoMemory;
 ///
 /// `NoMemory`.
 #[tactic(auto, using(crate::proofs::OpeningLemmas::has_graph))]
-pub fn graph_of(alloc: Global, bytes: &[u8]) -> Result<Option<Graph<'_>>, NoMemory>
+pub fn graph_of(alloc: Global, bytes: &[u8]) -> Result<Option<Graph>, NoMemory>
     ensures exact { IfOk result (λ graph. IsSome graph ↔ AreStream bytes.now) }
     ensures stands { IfOk result (λ graph. IfSome graph (StandsForSome bytes.now)) }
 {
@@ -39,7 +39,7 @@ pub fn graph_of(alloc: Global, bytes: &[u8]) -> Result<Option<Graph<'_>>, NoMemo
 /// # Errors
 ///
 /// Where the sink failed.
-pub fn hand_on<W: Sink>(alloc: Global, graph: &Graph<'_>, sink: &mut W) -> Result<usize, GraphFault>
+pub fn hand_on<W: Sink>(alloc: Global, graph: &Graph, sink: &mut W) -> Result<usize, GraphFault>
     ensures names { IfOk result (λ count. OfEachList graph.now.bytes (λ list. count ≡ length (checked_names list))) }
     ensures out { OnOk result (Appends (W.gone_out sink.old) (W.gone_out sink.new) graph.now.bytes) }
 {
@@ -51,7 +51,7 @@ pub fn hand_on<W: Sink>(alloc: Global, graph: &Graph<'_>, sink: &mut W) -> Resul
 }
 
 /// Shows a stream, and returns whether the sink can be given more: it can unless it failed, also where memory ran out.
-pub fn is_open_after<W: Sink>(alloc: Global, graph: &Graph<'_>, sink: &mut W) -> bool
+pub fn is_open_after<W: Sink>(alloc: Global, graph: &Graph, sink: &mut W) -> bool
     ensures open { result ≡ true → W.has_failed sink.new ≡ W.has_failed sink.old }
     ensures failed { result ≡ false → W.has_failed sink.new ≡ true }
 {

@@ -20,7 +20,7 @@ mod show;
 mod words;
 
 /// The graph of a stream that is accepted.
-fn graph_of<'b>(rt: &(impl Abort + AllocGlobal), bytes: &'b [u8]) -> Graph<'b> {
+fn graph_of(rt: &(impl Abort + AllocGlobal), bytes: &[u8]) -> Graph {
     match Graph::read(rt.alloc(), bytes) {
         Ok(graph) => graph,
         Err(_) => panic!(rt; "no stream, or no memory"),

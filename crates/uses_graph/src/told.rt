@@ -21,7 +21,7 @@ use std::alloc::Global;
 
 /// What a handle names in a stream.
 #[tactic(auto, using(crate::proofs::ToldLemmas::node_told))]
-pub fn node(graph: &Graph<'_>, bytes: &[u8], epoch: u64, handle: u32) -> Option<Node>
+pub fn node(graph: &Graph, bytes: &[u8], epoch: u64, handle: u32) -> Option<Node>
     requires { StandsForSome bytes.now graph.now }
     ensures { OfEachList bytes.now (λ list. IsNode (node_at (nodes_of list) epoch handle) result) }
 {
@@ -31,7 +31,7 @@ pub fn node(graph: &Graph<'_>, bytes: &[u8], epoch: u64, handle: u32) -> Option<
 
 /// The units of the string that a handle names.
 #[tactic(auto, using(crate::proofs::ToldLemmas::text_told))]
-pub fn text<'g>(graph: &'g Graph<'_>, bytes: &[u8], epoch: u64, handle: u32) -> Option<&'g [u16]>
+pub fn text<'g>(graph: &'g Graph, bytes: &[u8], epoch: u64, handle: u32) -> Option<&'g [u16]>
     requires { StandsForSome bytes.now graph.now }
     ensures { OfEachList bytes.now (λ list. IsList (text_of (node_at (nodes_of list) epoch handle)) result) }
 {
@@ -40,7 +40,7 @@ pub fn text<'g>(graph: &'g Graph<'_>, bytes: &[u8], epoch: u64, handle: u32) -> 
 }
 
 /// How many class names a stream has.
-pub fn name_count(graph: &Graph<'_>, bytes: &[u8]) -> usize
+pub fn name_count(graph: &Graph, bytes: &[u8]) -> usize
     requires { StandsForSome bytes.now graph.now }
     ensures { OfEachList bytes.now (λ list. result ≡ length (checked_names list)) }
 {
@@ -49,7 +49,7 @@ pub fn name_count(graph: &Graph<'_>, bytes: &[u8]) -> usize
 }
 
 /// A class name of a stream, by its number.
-pub fn name<'g>(graph: &'g Graph<'_>, bytes: &[u8], number: usize) -> Option<&'g [u16]>
+pub fn name<'g>(graph: &'g Graph, bytes: &[u8], number: usize) -> Option<&'g [u16]>
     requires { StandsForSome bytes.now graph.now }
     ensures { OfEachList bytes.now (λ list. IsList (slice_get (checked_names list) number) result) }
 {
@@ -65,7 +65,7 @@ pub fn name<'g>(graph: &'g Graph<'_>, bytes: &[u8], number: usize) -> Option<&'g
 #[tactic(auto, using(crate::proofs::ToldLemmas::bytes_told, crate::proofs::ToldLemmas::first_told))]
 pub fn write_back<W: Sink>(
     alloc: Global,
-    graph: &Graph<'_>,
+    graph: &Graph,
     bytes: &[u8],
     sink: &mut W,
 ) -> Result<u64, GraphFault>
@@ -86,7 +86,7 @@ pub fn write_back<W: Sink>(
 /// Where the sink failed or memory ran out: the first bytes of the text went out.
 pub fn show<W: Sink>(
     alloc: Global,
-    graph: &Graph<'_>,
+    graph: &Graph,
     bytes: &[u8],
     sink: &mut W,
 ) -> Result<u64, GraphFault>
@@ -107,7 +107,7 @@ pub fn show<W: Sink>(
 /// `TooDeep` exactly where it is more than 1,000 deep, else `TooLarge` exactly where it has more than 2^31 - 1 bytes, or
 /// `OutOfMemory` of one that is neither.
 #[tactic(auto, using(crate::proofs::ToldLemmas::cause_told))]
-pub fn tree(alloc: Global, graph: &Graph<'_>, bytes: &[u8]) -> Result<Contents, ValueCause>
+pub fn tree(alloc: Global, graph: &Graph, bytes: &[u8]) -> Result<Contents, ValueCause>
     requires { StandsForSome bytes.now graph.now }
     ensures list { IfOk result (λ contents. OfEachList bytes.now (λ list. view_contents contents ≡ list)) }
     ensures cause { IfErr result (λ why. OfEachList bytes.now (λ list. TreeCause why bytes.now list)) }

@@ -20,7 +20,7 @@ pub fn is_whole(len: u64, bytes: &[u8]) -> bool
     ensures { IsTrue result → length bytes.now ≡ len }
 {
     let mut scan = TextScan::new(len);
-    scan.push_all(bytes).is_ok() && scan.left() == 0
+    scan.push_all(bytes).is_ok() && scan.is_done()
 }
 
 /// How many bytes come before the first that makes the bytes no text, if one does.
@@ -78,7 +78,7 @@ pub fn is_plain_text(bytes: &[u8]) -> bool
     ensures { IsTrue result → bytes.now ≡ modified_utf8 bytes.now }
 {
     let mut scan = TextScan::new(bytes.len() as u64);
-    scan.push_plain(bytes) && scan.left() == 0
+    scan.push_plain(bytes) && scan.is_done()
 }
 
 /// Scans more of a text, at once where it is plain ASCII, and tells whether the text goes on with it.
@@ -114,7 +114,7 @@ pub fn can_begin(len: u64, byte: u8) -> bool
 pub fn push_more(scan: &mut TextScan, byte: u8) -> Option<Result<Option<u16>, TextFault>>
     ensures { result ≡ None ↔ scan.old.left ≡ 0 }
 {
-    if scan.left() == 0 {
+    if scan.is_done() {
         return None;
     }
     Some(scan.push(byte))
@@ -138,7 +138,7 @@ pub fn ends_with(scan: &mut TextScan, byte: u8) -> bool
     ensures { (len : ℕ) (bytes units : List ℕ) → HasAccepted len bytes units scan.old
         → IsTrue result → length (bytes ++ byte ∷ []) ≡ len }
 {
-    scan.push(byte).is_ok() && scan.left() == 0
+    scan.push(byte).is_ok() && scan.is_done()
 }
 
 /// Scans two bytes, and tells whether the text goes on with both.
@@ -172,7 +172,7 @@ pub fn is_mended(scan: &mut TextScan, byte: u8) -> bool
     ensures { result ≡ false }
 {
     let _ = scan.push(byte);
-    scan.left() == 0
+    scan.is_done()
 }
 
 /// Scans what came of a text, and tells whether the text is complete. One that was at fault before never is,
@@ -182,7 +182,7 @@ pub fn is_complete_after(scan: &mut TextScan, bytes: &[u8]) -> bool
     ensures { scan.old.has_failed ≡ true → result ≡ false }
 {
     let _ = scan.push_all(bytes);
-    scan.left() == 0
+    scan.is_done()
 }
 
 /// Whether a text that is at fault in these bytes goes on with one more byte: it never does.
@@ -224,7 +224,7 @@ pub fn units_in(alloc: Global, bytes: &[u8]) -> Result<Option<Vec<u16>>, AllocEr
             return Ok(None);
         }
     }
-    if scan.left() == 0 {
+    if scan.is_done() {
         Ok(Some(units))
     } else {
         Ok(None)

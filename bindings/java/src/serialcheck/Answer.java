@@ -2,7 +2,7 @@ package serialcheck;
 
 /** What a native call answers: the words of the header's serialcheck_answer, in its order. */
 final class Answer {
-    static final int YES = 0, NO = 1, MISUSE = 2, NO_MEMORY = 3, MORE = 4, SPENT = 5;
+    static final int YES = 0, NO = 1, MISUSE = 2, NO_MEMORY = 3, MORE = 4, SPENT = 5, SMALL = 6;
     /** How many words there are. The native code says the same number, or it is of another version. */
     static final int WORDS = 12;
 

@@ -75,13 +75,25 @@ public final class Filter implements AutoCloseable {
             }
         }
 
-        long stream(long[] answer) {
+        /** The handle of a new stream; what else is answered is thrown. */
+        long stream() {
             checking.lock();
             try {
-                return Native.streamNew(handle, answer);
+                long stream = Native.streamNew(handle, null);
+                return stream == 0 ? again() : stream;
             } finally {
                 checking.unlock();
             }
+        }
+
+        /** The same for an answer that says why there was none. */
+        private long again() {
+            Answer answer = new Answer();
+            long stream = Native.streamNew(handle, answer.words);
+            if (stream == 0) {
+                answer.wantOfFilter(Answer.MORE);
+            }
+            return stream;
         }
     }
 
@@ -133,7 +145,11 @@ public final class Filter implements AutoCloseable {
 
     /** The filter of the bytes of a file. */
     static Filter ofFile(byte[] file, Flag... flags) {
-        return new Filter(answer -> Native.filterRead(file, new byte[0], Flag.bits(flags), answer));
+        return ofFile(file, new byte[0], flags);
+    }
+
+    static Filter ofFile(byte[] file, byte[] modules, Flag... flags) {
+        return new Filter(answer -> Native.filterRead(file, modules, Flag.bits(flags), answer));
     }
 
     /**
@@ -256,15 +272,11 @@ public final class Filter implements AutoCloseable {
      * @throws IllegalStateException where the filter is closed
      */
     public Stream stream() {
-        Answer answer = new Answer();
-        long handle;
         try {
-            handle = held.stream(answer.words);
+            return new Stream(held.stream());
         } finally {
             Reference.reachabilityFence(this);
         }
-        answer.wantOfFilter(Answer.MORE);
-        return new Stream(handle);
     }
 
     /** Lets the filter go. One that is forgotten is let go some time after it was last used. */
@@ -281,7 +293,6 @@ public final class Filter implements AutoCloseable {
         return new InvalidObjectException("more than " + most + " bytes");
     }
 
-    /** The bytes of a text. One with an unpaired surrogate has none, and is not made another text by a `?` in its place. */
     /** A text in UTF-8; one with half of a surrogate pair is faulty. */
     static byte[] spelled(String text, String fault) {
         try {

@@ -3,6 +3,7 @@ package serialcheck;
 import java.io.File;
 import java.io.IOException;
 import java.io.InputStream;
+import java.nio.file.FileSystems;
 import java.nio.file.Files;
 import java.nio.file.Path;
 import java.nio.file.attribute.PosixFilePermissions;
@@ -15,7 +16,8 @@ import java.util.Locale;
 final class Library {
     static final String PROPERTY = "serialcheck.library";
     private static final String NAME = "serialcheck_jni";
-    private static final String IN_JAR = "/serialcheck/linux-x86_64/" + System.mapLibraryName(NAME);
+    static final String MACHINE = machine();
+    private static final String IN_JAR = "/serialcheck/" + MACHINE + "/" + System.mapLibraryName(NAME);
 
     private static boolean isLoaded;
 
@@ -30,13 +32,16 @@ final class Library {
                 throw new UnsatisfiedLinkError("serialcheck: the native library that was found is of another version than these classes. Take it out of java.library.path, or name "
                     + "the right one: -D" + PROPERTY + "=/path/to/" + System.mapLibraryName(NAME));
             }
+            if (MACHINE.startsWith("macos-")) {
+                Trial.run();
+            }
             isLoaded = true;
         }
     }
 
     private static boolean isOfThisVersion() {
         try {
-            return Native.words() == Answer.WORDS && Native.line(new Answer().words) != null;
+            return Native.words() == Answer.WORDS && Native.version() > 0;
         } catch (UnsatisfiedLinkError older) {
             return false;
         }
@@ -87,7 +92,7 @@ final class Library {
     private static void loadInJar() {
         try (InputStream bytes = Library.class.getResourceAsStream(IN_JAR)) {
             if (bytes == null) {
-                throw failure("there is no native library", null);
+                throw failure("the jar has no native code for " + System.getProperty("os.name") + " on " + System.getProperty("os.arch"), null);
             }
             loadCopy(bytes, IN_JAR);
         } catch (IOException fault) {
@@ -95,10 +100,33 @@ final class Library {
         }
     }
 
-    /** Loads a copy of a library: the only file of a new folder that no other user may enter. */
+    /** The folder of the jar that has the library for this machine: a system and a processor. */
+    private static String machine() {
+        String system = System.getProperty("os.name", "").toLowerCase(Locale.ROOT);
+        String processor = System.getProperty("os.arch", "").toLowerCase(Locale.ROOT);
+        if (system.startsWith("windows")) {
+            system = "windows";
+        } else if (system.startsWith("mac")) {
+            system = "macos";
+        }
+        if (processor.equals("amd64")) {
+            processor = "x86_64";
+        }
+        return system + "-" + processor;
+    }
+
+    /** A new folder that no other user may enter; on Windows, which has no such modes, it is in a folder of this user's own. */
+    private static Path newFolder() throws IOException {
+        if (FileSystems.getDefault().supportedFileAttributeViews().contains("posix")) {
+            return Files.createTempDirectory("serialcheck-", PosixFilePermissions.asFileAttribute(PosixFilePermissions.fromString("rwx------")));
+        }
+        return Files.createTempDirectory("serialcheck-");
+    }
+
+    /** Loads a copy of a library: the only file of a new folder. */
     private static void loadCopy(InputStream bytes, String name) {
         try {
-            Path folder = Files.createTempDirectory("serialcheck-", PosixFilePermissions.asFileAttribute(PosixFilePermissions.fromString("rwx------")));
+            Path folder = newFolder();
             Path copy = folder.resolve(System.mapLibraryName(NAME));
             try {
                 Files.copy(bytes, copy);
@@ -124,9 +152,9 @@ final class Library {
 
     /** An error that says what to do. */
     private static UnsatisfiedLinkError failure(String what, Throwable why) {
-        UnsatisfiedLinkError error = new UnsatisfiedLinkError(String.format(Locale.ROOT, "serialcheck: %s%s. The library of the jar is for Linux on x86-64 with glibc, and is "
-            + "taken out to the folder java.io.tmpdir, whose files must be allowed to run. Else name one: -D%s=/path/to/%s",
-            what, why == null ? "" : " (" + why + ")", PROPERTY, System.mapLibraryName(NAME)));
+        UnsatisfiedLinkError error = new UnsatisfiedLinkError(String.format(Locale.ROOT, "serialcheck: %s%s. The jar has libraries for Linux on x86-64 and aarch64, for Windows on x86-64 and for macOS on "
+            + "arm64, and this is %s. One is taken out to the folder java.io.tmpdir, whose files must be allowed to run. Else name one: -D%s=/path/to/%s",
+            what, why == null ? "" : " (" + why + ")", MACHINE, PROPERTY, System.mapLibraryName(NAME)));
         error.initCause(why);
         return error;
     }

@@ -85,7 +85,7 @@ public final class Refused extends InvalidObjectException {
      * The class that the filter does not admit: of the reasons {@code ClassRejected}, {@code ClassUnmatched} and {@code HiddenName}.
      *
      * @return its name, in which letters other than printable ASCII are escaped, so that it may be logged; null
-     *     with another reason, or where the bytes came in pieces
+     *     with another reason
      */
     public String className() {
         return className;

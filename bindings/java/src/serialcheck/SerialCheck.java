@@ -3,7 +3,7 @@ package serialcheck;
 import java.io.IOException;
 import java.io.InputStream;
 
-/** Single checks, whose filter is read each time. Where many streams come under one filter, make a {@link Filter}. Any thread may call. */
+/** Single checks, whose filter is read each time, and the texts of streams. Where many streams come under one filter, make a {@link Filter}. Any thread may call. */
 public final class SerialCheck {
     private SerialCheck() {
     }
@@ -41,5 +41,45 @@ public final class SerialCheck {
         try (Filter once = new Filter(filter, flags)) {
             return once.check(in, most);
         }
+    }
+
+    /**
+     * The text of {@code serialcheck show}: what a stream holds.
+     *
+     * @param bytes a whole stream
+     * @param most how many bytes the text may have: that of a small hostile stream can have gigabytes
+     * @return whole lines of the text
+     * @throws Refused where the bytes are no stream
+     * @throws IllegalArgumentException where {@code most} is below 0
+     */
+    public static Text show(byte[] bytes, int most) throws Refused {
+        return Text.of(bytes, null, null, most);
+    }
+
+    /**
+     * The text of {@code serialcheck list}: a line for each class name, with how often it occurs and what a filter says of it, which
+     * refuses nothing here.
+     *
+     * @param bytes a whole stream
+     * @param filter the filter's text
+     * @param modules lines {@code package=module}
+     * @param most how many bytes the text may have
+     * @return whole lines of the text
+     * @throws Refused where the bytes are no stream
+     * @throws IllegalArgumentException where the filter or the table is faulty, or {@code most} is below 0
+     */
+    public static Text list(byte[] bytes, String filter, String modules, int most) throws Refused {
+        return Text.of(bytes, Filter.spelled(filter, "filter is not text"), Filter.spelled(modules, "modules are not text"), most);
+    }
+
+    /**
+     * The version of the native library.
+     *
+     * @return three numbers with points between them
+     */
+    public static String version() {
+        Library.need();
+        int version = Native.version();
+        return (version >> 16) + "." + (version >> 8 & 255) + "." + (version & 255);
     }
 }

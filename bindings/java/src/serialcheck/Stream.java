@@ -14,6 +14,8 @@ public final class Stream implements AutoCloseable {
     /** The native stream. It refers to no Stream, so that the cleaner may run. */
     private static final class Held implements Runnable {
         private long handle;
+        private long taken;
+        private String className;
 
         @Override
         public synchronized void run() {
@@ -21,12 +23,27 @@ public final class Stream implements AutoCloseable {
             handle = 0;
         }
 
-        synchronized void feed(byte[] bytes, int from, int length, long[] answer) {
-            Native.streamFeed(handle, bytes, from, length, answer);
+        /** Returns how many bytes were taken in all. It makes no object before something is refused. */
+        synchronized long feed(byte[] bytes, int from, int length) throws Refused {
+            int status = Native.streamFeed(handle, bytes, from, length);
+            if (status != Answer.MORE) {
+                fail(status);
+            }
+            return taken += length;
         }
 
-        synchronized void end(long[] answer) {
-            Native.streamEnd(handle, answer);
+        private void fail(int status) throws Refused {
+            Answer answer = new Answer();
+            answer.words[0] = status;
+            if (status == Answer.NO) {
+                answer.className = className = Native.streamAnswer(handle, answer.words);
+            }
+            answer.want(Answer.MORE);
+        }
+
+        synchronized void end(Answer answer) {
+            Native.streamEnd(handle, answer.words);
+            answer.className = className;
         }
     }
 
@@ -37,35 +54,35 @@ public final class Stream implements AutoCloseable {
     }
 
     /**
-     * Takes the next bytes. Where it returns, they decide nothing.
+     * Takes the next bytes. Where it returns, they decide nothing, and no object was made.
      *
      * @param bytes the next piece
+     * @return how many bytes it has taken in all
      * @throws Refused where a byte of this piece, or of one before it, decides, whatever comes next
      * @throws IllegalStateException where the stream was ended or closed
      */
-    public void feed(byte[] bytes) throws Refused {
-        feed(bytes, 0, bytes.length);
+    public long feed(byte[] bytes) throws Refused {
+        return feed(bytes, 0, bytes.length);
     }
 
     /**
-     * Takes the next bytes, from a part of an array. Where it returns, they decide nothing.
+     * Takes the next bytes, from a part of an array. Where it returns, they decide nothing, and no object was made.
      *
      * @param bytes where the piece is
      * @param from the offset of its first byte
      * @param length how many bytes it has
+     * @return how many bytes the stream has taken in all
      * @throws Refused where a byte of this piece, or of one before it, decides, whatever comes next
      * @throws IndexOutOfBoundsException where the array has no such part
      * @throws IllegalStateException where the stream was ended or closed
      */
-    public void feed(byte[] bytes, int from, int length) throws Refused {
+    public long feed(byte[] bytes, int from, int length) throws Refused {
         java.util.Objects.checkFromIndexSize(from, length, bytes.length);
-        Answer answer = new Answer();
         try {
-            held.feed(bytes, from, length, answer.words);
+            return held.feed(bytes, from, length);
         } finally {
             Reference.reachabilityFence(this); // else the cleaner could free a stream whose last call is this one
         }
-        answer.want(Answer.MORE);
     }
 
     /**
@@ -78,7 +95,7 @@ public final class Stream implements AutoCloseable {
     public Report end() throws Refused {
         Answer answer = new Answer();
         try {
-            held.end(answer.words);
+            held.end(answer);
         } finally {
             Reference.reachabilityFence(this);
         }

@@ -28,6 +28,13 @@ fn is_array(kind: LayerKind) -> bool
 }
 
 impl Machine {
+    /// The units so far of the name that is being read, or of the one that was read last.
+    pub(crate) fn class_units(&self) -> &[u16]
+        ensures { result.now ≡ self.now.name }
+    {
+        self.name.as_slice()
+    }
+
     /// Why the gate does not let the name pass that has been read, if it does not.
     #[tactic(auto, using(crate::proofs::NameLemmas::passes, crate::proofs::NameLemmas::rejected_name, crate::proofs::NameLemmas::unmatched_name))]
     #[inline(always)]

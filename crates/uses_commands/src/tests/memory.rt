@@ -4,6 +4,7 @@ use crate::tests::asserted::holds;
 use jser_commands::{Job, run};
 use jser_filter::Filter;
 use jser_inputs::{Decoded, Form};
+use jser_settings::filter_of;
 use std::alloc::{AllocGlobal, Global};
 use std::process::Abort;
 use test_support::streams::LINKED_PAIR;
@@ -26,6 +27,19 @@ fn ends(rt: &(impl Abort + AllocGlobal), job: &Job, text: &[u8]) {
             "that memory ran out is told",
         ),
         _ => rt.panic("another status"),
+    }
+}
+
+#[test]
+fn a_filter_or_want_of_memory(rt: HostRuntime) {
+    let mut faults = Compared::new(b"out of memory\n");
+    match filter_of(rt.alloc(), "a.*;maxdepth=3;!*", &mut faults) {
+        Ok(_) => holds(&rt, faults.left() == 14, "nothing is told"),
+        Err(status) => holds(
+            &rt,
+            status == 3 && faults.is_whole(),
+            "that memory ran out is told",
+        ),
     }
 }
 

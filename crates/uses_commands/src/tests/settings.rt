@@ -36,6 +36,23 @@ fn a_faulty_filter_is_told(rt: HostRuntime) {
 }
 
 #[test]
+fn a_filter_without_fault(rt: HostRuntime) {
+    let mut faults = page(&rt);
+    match filter_of(rt.alloc(), "a.*;maxdepth=3;!*", &mut faults) {
+        Ok(filter) => {
+            let limits = filter.limits();
+            holds(
+                &rt,
+                limits.depth == Some(3) && limits.bytes.is_none(),
+                "its limits",
+            );
+        }
+        Err(_) => rt.panic("this is a filter, and there is memory"),
+    }
+    has(&rt, &faults, b"", "nothing is told");
+}
+
+#[test]
 fn a_filter_in_a_file(rt: HostRuntime) {
     let mut faults = page(&rt);
     let lines = b"# good ones\njava.util.*\n\n!*\n";

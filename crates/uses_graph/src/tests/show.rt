@@ -28,14 +28,14 @@ ref #0.7e0003
 /// Shows the graph.
 pub(crate) fn show<W: Sink>(
     rt: &impl AllocGlobal,
-    graph: &Graph<'_>,
+    graph: &Graph,
     sink: &mut W,
 ) -> Result<u64, GraphFault> {
     graph.show(rt.alloc(), sink)
 }
 
 /// The stream is shown as this text, to a sink that takes so many bytes at once.
-fn shows_by(rt: &(impl Abort + AllocGlobal), graph: &Graph<'_>, text: &[u8], step: usize) {
+fn shows_by(rt: &(impl Abort + AllocGlobal), graph: &Graph, text: &[u8], step: usize) {
     let mut page = Page::new(rt.alloc(), step, 1_000_000);
     let count = show(rt, graph, &mut page);
     page_has(rt, &page, count, text);
@@ -111,7 +111,7 @@ fn show_nothing(rt: HostRuntime) {
 const NEST_999_LENGTH: u64 = 2_047_027;
 
 /// The text has so many bytes.
-fn shows_as_many(rt: &(impl Abort + AllocGlobal), graph: &Graph<'_>, length: u64) {
+fn shows_as_many(rt: &(impl Abort + AllocGlobal), graph: &Graph, length: u64) {
     let mut page = Page::new(rt.alloc(), 4096, 10_000_000);
     let count = show(rt, graph, &mut page);
     is_as_long(rt, &page, count, length);
@@ -134,7 +134,7 @@ fn is_as_long(rt: &impl Abort, page: &Page, count: Result<u64, GraphFault>, leng
 }
 
 /// To a page that has room for so much of the text of the linked pair, just this is shown.
-fn shows_fronts(rt: &(impl Abort + AllocGlobal), graph: &Graph<'_>) {
+fn shows_fronts(rt: &(impl Abort + AllocGlobal), graph: &Graph) {
     for room in 0..LINKED_PAIR_TEXT.len() {
         shows_front(rt, graph, &LINKED_PAIR_TEXT[..room]);
     }
@@ -149,7 +149,7 @@ fn show_fails_anywhere(rt: HostRuntime) {
 }
 
 /// To a page that has no room for more than this text, it is shown, and then the fault counts it.
-fn shows_front(rt: &(impl Abort + AllocGlobal), graph: &Graph<'_>, front: &[u8]) {
+fn shows_front(rt: &(impl Abort + AllocGlobal), graph: &Graph, front: &[u8]) {
     let mut page = Page::new(rt.alloc(), 7, front.len());
     let count = show(rt, graph, &mut page);
     page_is_full(rt, &page, count, front);

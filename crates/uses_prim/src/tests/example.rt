@@ -13,7 +13,7 @@ fn is_short_text(bytes: &[u8]) -> bool {
         return false;
     }
     let mut scan = TextScan::new(u64::from(len));
-    scan.push_all(text).is_ok() && scan.left() == 0
+    scan.push_all(text).is_ok() && scan.is_done()
 }
 // end
 

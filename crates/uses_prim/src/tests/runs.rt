@@ -43,7 +43,7 @@ const PAIRS: [(&str, [u8; 2], usize); 9] = [
     ("a second byte without its first", [0x80, 0x80], 0),
 ];
 
-/// Three bytes where a unit should begin, and how many of them are right, among letters of three bytes.
+/// The same of three bytes, among letters of three bytes.
 const TRIPLES: [(&str, [u8; 3], usize); 15] = [
     ("two bytes in three, E0 80", [0xE0, 0x80, 0x80], 1),
     ("two bytes in three, E0 9F", [0xE0, 0x9F, 0xBF], 1),

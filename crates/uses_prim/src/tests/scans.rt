@@ -9,7 +9,7 @@ use std::test::Fail;
 /// What a scan of a text of the bytes' length answers to the first bytes, pushed one by one.
 fn pushed(bytes: &[u8], scan: &mut TextScan) -> usize {
     for (accepted, byte) in bytes.iter().enumerate() {
-        if scan.left() == 0 || scan.push(*byte).is_err() {
+        if scan.is_done() || scan.push(*byte).is_err() {
             return accepted;
         }
     }
@@ -18,7 +18,7 @@ fn pushed(bytes: &[u8], scan: &mut TextScan) -> usize {
 
 /// Pushes one byte, which the scan still expects.
 fn push(rt: &impl Abort, scan: &mut TextScan, byte: u8) -> Result<Option<u16>, TextFault> {
-    holds!(rt; scan.left() > 0);
+    holds!(rt; !scan.is_done());
     scan.push(byte)
 }
 
@@ -61,18 +61,18 @@ const PUSHES: [(&str, u64, &[Push], bool); 6] = [
 ];
 
 /// The scan of a text of so many bytes answers this to its first bytes, and is then done, or not.
-fn compare_pushes(rt: &impl Abort, name: &str, len: u64, pushes: &[Push], is_whole: bool) {
+fn compare_pushes(rt: &impl Abort, name: &str, len: u64, pushes: &[Push], is_done: bool) {
     let mut scan = TextScan::new(len);
     for (byte, answer) in pushes {
         same!(rt; push(rt, &mut scan, *byte), *answer, name);
     }
-    same!(rt; scan.left() == 0, is_whole, name);
+    same!(rt; scan.is_done(), is_done, name);
 }
 
 #[test]
 fn scans_byte_by_byte(rt: HostRuntime) {
-    for (name, len, pushes, is_whole) in &PUSHES {
-        compare_pushes(&rt, name, *len, pushes, *is_whole);
+    for (name, len, pushes, is_done) in &PUSHES {
+        compare_pushes(&rt, name, *len, pushes, *is_done);
     }
 }
 
@@ -139,7 +139,7 @@ pub fn pushed_in_two(text: &[u8], cut: usize) -> usize {
     }
 }
 
-/// How many bytes of a text of just these a scan accepts, given one by one.
+/// The same, byte by byte.
 fn pushed_alone(text: &[u8]) -> usize {
     pushed(text, &mut TextScan::new(text.len() as u64))
 }
@@ -241,7 +241,7 @@ fn read_back(rt: &impl Abort, bytes: &[u8], units: &mut Vec<u16>) -> Result<(), 
             units.push(unit)?;
         }
     }
-    holds!(rt; scan.left() == 0);
+    holds!(rt; scan.is_done());
     Ok(())
 }
 
@@ -270,7 +270,7 @@ fn each_unit_comes_back_from_its_spelling(rt: HostRuntime) -> Result<(), Fail> {
 fn a_fault_in_a_slice_stays(rt: HostRuntime) {
     let mut scan = TextScan::new(4);
     same!(rt; scan.push_all(b"ab\0c"), Err(TextFaultAfter { accepted: 2 }));
-    holds!(rt; scan.left() > 0);
+    holds!(rt; !scan.is_done());
     same!(rt; push(&rt, &mut scan, b'c'), Err(TextFault));
 }
 

@@ -4,7 +4,7 @@ ghost use Rattle.jser_verdict.specs.Gates.{pass, rejected, unmatched};
 
 use crate::tests::asserted::{holds, same};
 use crate::tests::{answer_under, totals};
-use jser_reader::{Answer, Gate, Limits, OpenGate, Reader, Reason, Refusal, Stop, Totals};
+use jser_reader::{Answer, Gate, OpenGate, Reader, Reason, Refusal, Stop, Totals};
 use std::alloc::AllocGlobal;
 use std::process::Abort;
 use std::test::Fail;
@@ -56,14 +56,24 @@ impl Gate for Limited {
         }
     }
 
-    fn limits(&self) -> Limits {
-        Limits {
-            bytes: self.bytes.min(0x100_0000_0000),
-            depth: self.depth.min(65_535),
-            refs: self.refs.min(0x7FFF_FFFF_FFFF_FFFF),
-            array: self.array.min(0x7FFF_FFFF),
-            handles: self.handles.min(2_139_226_112),
-        }
+    fn max_bytes(&self) -> u64 {
+        self.bytes.min(0x100_0000_0000)
+    }
+
+    fn max_depth(&self) -> u32 {
+        self.depth.min(65_535)
+    }
+
+    fn max_refs(&self) -> u64 {
+        self.refs.min(0x7FFF_FFFF_FFFF_FFFF)
+    }
+
+    fn max_array(&self) -> u32 {
+        self.array.min(0x7FFF_FFFF)
+    }
+
+    fn max_handles(&self) -> u32 {
+        self.handles.min(2_139_226_112)
     }
 
     ghost use Rattle.std.proofs.Common.{rules};

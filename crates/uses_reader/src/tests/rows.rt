@@ -1,7 +1,9 @@
 //! Worked streams, and what each of them is: the counts of a stream, or the refusal of bytes that are none.
 
 use crate::tests::asserted::{holds, same};
-use crate::tests::{answer_of, assert_accepted, assert_refused, totals, with_zeros};
+use crate::tests::{
+    answer_of, answer_to_items, assert_accepted, assert_refused, totals, with_zeros,
+};
 use jser_reader::{Reason, Stop};
 use std::alloc::AllocGlobal;
 use std::process::Abort;
@@ -64,6 +66,30 @@ fn each_stream_cut_after_each_byte(rt: HostRuntime) {
             assert_cut(&rt, front);
         }
     }
+}
+
+/// Each byte in turn at this place of the stream: item by item in pieces of three the answer is that to all bytes at once.
+fn assert_each_byte(rt: &(impl Abort + AllocGlobal), bytes: &mut [u8], at: usize) {
+    for other in 0..=u8::MAX {
+        if let Some(byte) = bytes.get_mut(at) {
+            *byte = other;
+        }
+        let wanted = answer_of(rt.alloc(), bytes, bytes.len());
+        let found = answer_to_items(rt.alloc(), bytes, 3);
+        let text = format_args!("{other} at {at}");
+        same(rt, &found, &wanted, text);
+    }
+}
+
+#[test]
+fn each_byte_replaced_by_each(rt: HostRuntime) -> Result<(), Fail> {
+    for (bytes, _) in ACCEPTED {
+        for at in 0..bytes.len() {
+            let mut replaced = bytes.to_vec(rt.alloc())?;
+            assert_each_byte(&rt, &mut replaced, at);
+        }
+    }
+    Ok(())
 }
 
 /// Bytes that are refused, the reason, and the two places.

@@ -2,4 +2,4 @@ use Rattle.std.proofs.Common.{◌≡◌, ◌+◌, ◌++◌, ◌≤◌, length, t
 use Rattle.jser_anywhere.proofs.letters.push_few.Given as goal
 
 abbrev pub invariant-bytes : goal.invariant-bytes
-invariant-bytes l = length l.fn.kept.items + length l.bytes ≤ 9217 → l.kept.items ≡ l.fn.kept.items ++ take l.byte-index l.bytes
+invariant-bytes l = length l.fn.kept + length l.bytes ≤ 9217 → l.kept ≡ l.fn.kept ++ take l.byte-index l.bytes

@@ -1,6 +1,7 @@
-use Rattle.std.proofs.Common.{Err, ap, subst, sym, ◌∙◌}
-use Rattle.jser_check_anywhere.specs.declared.AnywhereFault.TheVariants as fault
-use Rattle.jser_check_anywhere.specs.SourceAnswers.{SourceTells}
+use Rattle.std.proofs.Common.{Err, ap, subst, sym, true, ◌∙◌}
+use Rattle.jser_check.specs.declared.AnywhereFault.TheVariants as fault
+use Rattle.jser_check.specs.Passing.{asking}
+use Rattle.jser_check.specs.Reads.{SourceTells}
 use Rattle.jser_scan.specs.Founds.{options_in}
 use Rattle.jser_scan.specs.LastSeen.{AreLast}
 use Rattle.jser_scan.proofs.FoundLemmas.{refused_anywhere}
@@ -10,7 +11,7 @@ use Rattle.jser_scan.proofs.check.check_names.Goals as goal
 pub returns-in-Err-Stop-Refused-clause-found : goal.returns-in-Err-Stop-Refused-clause-found
 returns-in-Err-Stop-Refused-clause-found g c =
     refused_anywhere c.args.rules.now c.args.tail.now.bytes c.in-Err-Stop-Refused.refusal c.refused.result
-    (subst (λ r. SourceTells c.args.rules.now.filter (options_in c.args.rules.now) c.args.tail.now.bytes r)
+    (subst (λ r. SourceTells (asking c.args.rules.now.filter (options_in c.args.rules.now) true) c.args.tail.now.bytes r)
     (c.in-Err-Stop-Refused.is ∙ ap Err (c.in-Err-Stop-Refused.field-0-is ∙ ap fault.Stop c.in-Err-Stop-Refused.field-0-0-is)) c.check_anywhere.ensures.tells)
     c.refused.ensures.is
 

@@ -1,4 +1,4 @@
-use Rattle.std.proofs.Common.{length, rules}
+use Rattle.std.proofs.Common.{length}
 use Rattle.uses_prim.proofs.Units.{starts, has_room, goes_on, whole}
 use Rattle.uses_prim.proofs.texts.units_in.Goals as goal
 
@@ -13,7 +13,7 @@ bytes-preserved c =
     goes_on c.args.bytes.now _ _ c.bytes.byte-index _ c.bytes-test.true
     (c.in_ok-push_onto.ensures c.if-not-branch.false (length c.args.bytes.now) _ c.bytes.invariant)
 
-pub returns-then-left-eq0 : goal.returns-then-left-eq0
-returns-then-left-eq0 c =
+pub returns-then-is_done : goal.returns-then-is_done
+returns-then-is_done c =
     whole c.args.bytes.now _ c.bytes.byte-index c.bytes-test.false
-    (c.left.ensures.text (length c.args.bytes.now) _ _ c.bytes.invariant (search rules))
+    (c.is_done.ensures.text (length c.args.bytes.now) _ _ c.bytes.invariant c.if-is_done.true)

@@ -19,7 +19,7 @@ invariant_of-self-2 g c =
     (filled_holds a.room.items new has a.start a.end c.in-Ok.count a.sought a.searched over
     (c.take_behind.ensures.front ∙ ap (λ xs. take a.end xs) c.as_mut_slice.ensures.value) same
     (subst (λ r. IfOk r (λ n. n ≤ length (drop a.end new))) c.in-Ok.is c.take_behind.ensures.within) c.self.invariant.fits
-    (λ none. (subst (λ r. ReadConsumes (g.R.Source.to_come a.source) has r (drop a.end new)) c.in-Ok.is c.take_behind.ensures.bytes).1 (eqb-true c.in-Ok.count 0 none)
+    (λ none. (subst (λ r. ReadConsumes (g.R.Source.to_come a.source.now) has r (drop a.end new)) c.in-Ok.is c.take_behind.ensures.bytes).1 (eqb-true c.in-Ok.count 0 none)
     (let free = length-drop a.end new in let size = c.len.ensures in let room = a.room.ok.0 in let more = c.if-end-len.false in omega (arith, free, same, size, room, more))))
 
 pub returns-clause-comes : goal.returns-clause-comes
@@ -27,7 +27,7 @@ returns-clause-comes g c =
     let a = c.self.inside in
     let new = c.take_behind.new.room in
     let same : length new ≡ length a.room.items = c.take_behind.ensures.size ∙ ap length c.as_mut_slice.ensures.value in
-    let had = g.R.Source.to_come a.source in
+    let had = g.R.Source.to_come a.source.now in
     let has = g.R.Source.to_come c.take_behind.new.source in
     let over = c.in-Ok.count == 0 in
     subst (λ old. ComesMore old (view_of has (with_items a.room new).items a.start (a.end + c.in-Ok.count) a.sought over)) c.self.view_is

@@ -1,0 +1,3 @@
+module serialcheck
+
+go 1.18

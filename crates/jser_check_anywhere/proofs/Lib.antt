@@ -1,4 +1,0 @@
-pub mod AnywhereLemmas
-mod FrontLemmas
-pub mod SourceLemmas
-pub mod JudgedLemmas

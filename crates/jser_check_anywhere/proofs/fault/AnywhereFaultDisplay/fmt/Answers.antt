@@ -1,4 +1,0 @@
-use Rattle.jser_check_anywhere.proofs.fault.AnywhereFaultDisplay.fmt.Goals as goal
-
-pub returns-in-Hidden-clause-writes : goal.returns-in-Hidden-clause-writes
-returns-in-Hidden-clause-writes g c = rw (c.in-Hidden.is) (c.write-in-Hidden.ensures.writes)
