@@ -2,14 +2,15 @@
 use Rattle.std.proofs.Common.{◌≡◌, ℕ, ◌+◌, ◌*◌, ◌==◌, ◌||◌, if◌then◌else◌, Bool, true, false, Some, refl, sym, ap, ◌∙◌, arith}
 use Rattle.std.specs.Prelude.{◌/◌, ◌%◌, is_some}
 use Rattle.std.proofs.lemmas.Bool.{eqb-true}
-use Rattle.jser_inputs.specs.declared.group.Group.{Group}
+use Rattle.jser_inputs.specs.Groups.{Group}
 use Rattle.jser_inputs.specs.declared.spot.Spot.{Spot}
 use Rattle.jser_inputs.specs.declared.spot.Move.TheVariants as move
-use Rattle.jser_inputs.specs.declared.digit.Alphabet.{Alphabet}
-use Rattle.jser_inputs.specs.declared.digit.Alphabet.TheVariants as alphabet
+use Rattle.jser_digits.specs.declared.digit.Alphabet.{Alphabet}
+use Rattle.jser_digits.specs.declared.digit.Alphabet.TheVariants as alphabet
 use Rattle.jser_inputs.specs.declared.place.Place.{Place}
 use Rattle.jser_inputs.specs.declared.place.Place.TheVariants as place
-use Rattle.jser_inputs.specs.Digits.{is_space, value_in}
+use Rattle.jser_inputs.specs.Spaces.{is_space}
+use Rattle.jser_digits.specs.Digits.{value_in}
 use Rattle.jser_inputs.specs.Places.{move_of, move_over_space, moved, step_by_place, pads, first_read, second_read, third_read, fourth_read}
 use Rattle.jser_inputs.specs.Groups.{IsGroup}
 
@@ -19,10 +20,10 @@ other_by : (test : ℕ → Bool) (c k : ℕ) (t : Bool) → (c == k) ≡ t → t
 other_by test c k true is e f = absurd (cc (sym e ∙ ap test (eqb-true c k is) ∙ f))
 other_by test c k false is e f = refl
 
-other : (test : ℕ → Bool) (c k : ℕ) → test c ≡ true → test k ≡ false → (c == k) ≡ false
+pub other : (test : ℕ → Bool) (c k : ℕ) → test c ≡ true → test k ≡ false → (c == k) ≡ false
 other test c k e f = other_by test c k (c == k) refl e f
 
-neither : (a b : Bool) → a ≡ false → b ≡ false → (a || b) ≡ false
+pub neither : (a b : Bool) → a ≡ false → b ≡ false → (a || b) ≡ false
 neither true b e f = absurd (cc e)
 neither false b e f = f
 
@@ -43,14 +44,16 @@ is_one letters c v e = ap is_some e
 no_space : (letters : Alphabet) (c v : ℕ) → value_in letters c ≡ Some v → is_space c ≡ false
 no_space alphabet.Standard c v e = no_space_by alphabet.Standard c (is_one alphabet.Standard c v e) refl refl refl refl
 no_space alphabet.UrlSafe c v e = no_space_by alphabet.UrlSafe c (is_one alphabet.UrlSafe c v e) refl refl refl refl
+no_space alphabet.Either c v e = no_space_by alphabet.Either c (is_one alphabet.Either c v e) refl refl refl refl
 
 no_padding : (letters : Alphabet) (c v : ℕ) → value_in letters c ≡ Some v → (c == 0x3D) ≡ false
 no_padding alphabet.Standard c v e = other (is_digit alphabet.Standard) c 0x3D (is_one alphabet.Standard c v e) refl
 no_padding alphabet.UrlSafe c v e = other (is_digit alphabet.UrlSafe) c 0x3D (is_one alphabet.UrlSafe c v e) refl
+no_padding alphabet.Either c v e = other (is_digit alphabet.Either) c 0x3D (is_one alphabet.Either c v e) refl
 
 -- ---- what each of four digits does
 
-moves : (spot : Spot) (c : ℕ) (p : Place) → is_space c ≡ false → spot.place ≡ p → move_of spot c ≡ moved spot.spare (step_by_place p c)
+pub moves : (spot : Spot) (c : ℕ) (p : Place) → is_space c ≡ false → spot.place ≡ p → move_of spot c ≡ moved spot.spare (step_by_place p c)
 moves spot c p e is =
     ap (λ b. if b then move_over_space spot.place spot.spare c else moved spot.spare (step_by_place spot.place c)) e
     ∙ ap (λ q. moved spot.spare (step_by_place q c)) is
@@ -80,7 +83,7 @@ fourth_moves letters bits spare c v e =
     ∙ ap (λ b. moved spare (if b then pads bits place.Padded else fourth_read letters bits (value_in letters c))) (no_padding letters c v e)
     ∙ ap (λ o. moved spare (fourth_read letters bits o)) e
 
-abbrev bytes_of_digits : Alphabet → (spare one two three four : ℕ) → Group
+abbrev pub bytes_of_digits : Alphabet → (spare one two three four : ℕ) → Group
 bytes_of_digits letters spare one two three four =
     record {
       first = one * 4 + two / 16;

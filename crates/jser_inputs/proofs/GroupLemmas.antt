@@ -1,10 +1,11 @@
 -- A whole group that is taken at once.
 use Rattle.std.proofs.Common.{◌≡◌, ℕ, ◌+◌, ◌≤◌, length, take, drop, get_or, set, List, refl, sym, ap, subst, ◌∙◌, arith}
 use Rattle.std.proofs.lemmas.List.{get_or-drop, length-set}
-use Rattle.jser_inputs.specs.declared.group.Group.{Group}
+use Rattle.jser_inputs.specs.Groups.{Group}
 use Rattle.jser_inputs.specs.declared.spot.Spot.{Spot}
 use Rattle.jser_inputs.specs.Places.{move_of}
-use Rattle.jser_inputs.specs.Groups.{IsGroupAt}
+use Rattle.jser_inputs.specs.declared.spot.Move.TheVariants as move
+use Rattle.jser_inputs.specs.Groups.{IsGroupAt, Turned, TurnsOn}
 use Rattle.jser_inputs.specs.Spelled.{Reads}
 use Rattle.jser_inputs.proofs.ReadLemmas.{goes_on, gives_on, passed_over, written_over}
 
@@ -27,12 +28,6 @@ two_set buf given group = set (one_set buf given group) (given + 1) group.second
 
 abbrev pub all_set : (buf : List ℕ) (given : ℕ) → Group → List ℕ
 all_set buf given group = set (two_set buf given group) (given + 2) group.third
-
--- what a turn of the loop keeps
-pub record Turned (start now : Spot) (old buf : List ℕ) (count taken given : ℕ) : Type 0 where
-  pub reads : Reads start now (take count old) (drop taken (take count old)) (take given buf) taken
-  pub left : drop taken buf ≡ drop taken old
-  pub size : length buf ≡ length old
 
 first_turn : (start now : Spot) (group : Group) (old buf : List ℕ) (count taken given : ℕ) → count ≤ length old → given ≤ taken → Turned start now old buf count taken given
     → (g : IsGroupAt now buf taken count group) → Turned start g.is.third_at old (one_set buf given group) count (taken + 2) (given + 1)
@@ -85,3 +80,40 @@ group_turn start now group old buf count taken given within few t g =
       left = moved_on (all_set buf given group) old (taken + 3 + 1) (taken + 4) (omega arith) (written_over old buf2 (given + 2) (taken + 3) group.third (omega (arith, few)) two.left);
       size = length-set buf2 (given + 2) group.third ∙ two.size;
     }
+
+-- ---- runs of groups and of pairs
+
+pub turns_none : (from : Spot) (buf : List ℕ) (count taken given : ℕ) → TurnsOn from from buf buf count taken given taken given
+turns_none from buf count taken given = λ start text within t. t
+
+pub turns_group : (from now : Spot) (group : Group) (old buf : List ℕ) (count from_taken from_given taken given : ℕ) → given ≤ taken → TurnsOn from now old buf count from_taken from_given taken given
+    → IsGroupAt now buf taken count group → TurnsOn from group.next old (all_set buf given group) count from_taken from_given (taken + 4) (given + 3)
+turns_group from now group old buf count from_taken from_given taken given few t g =
+    λ start text within before. group_turn start now group text buf count taken given within few (t start text within before) g
+
+-- a pair
+pub record IsPairAt (now next : Spot) (text : List ℕ) (at count byte : ℕ) : Type 0 where
+  pub inside : at + 2 ≤ count
+  pub between : Spot
+  pub goes : move.Goes between ≡ move_of now (get_or text at 0)
+  pub gives : move.Gives byte next ≡ move_of between (get_or text (at + 1) 0)
+
+pub pair_turn : (start now next : Spot) (old buf : List ℕ) (count taken given byte : ℕ) → count ≤ length old → given ≤ taken → Turned start now old buf count taken given
+    → IsPairAt now next buf taken count byte → Turned start next old (set buf given byte) count (taken + 2) (given + 1)
+pair_turn start now next old buf count taken given byte within few t p =
+    let text = take count old in
+    let r1 = goes_on start now p.between p.between old buf buf count taken given given 0 (omega (arith, p.inside)) within t.left t.reads p.goes refl refl refl in
+    let left1 = passed_over old buf taken t.left in
+    record {
+      reads =
+          shifted start next text (take (given + 1) (set buf given byte)) (taken + 1 + 1) (taken + 2) (omega arith)
+          (gives_on start p.between next next old buf (set buf given byte) count (taken + 1) given (given + 1) byte 0 (omega (arith, p.inside)) within
+          left1 (omega (arith, few)) t.size r1 p.gives refl refl refl);
+      left = moved_on (set buf given byte) old (taken + 1 + 1) (taken + 2) (omega arith) (written_over old buf given (taken + 1) byte (omega (arith, few)) left1);
+      size = length-set buf given byte ∙ t.size;
+    }
+
+pub turns_pair : (from now next : Spot) (old buf : List ℕ) (count from_taken from_given taken given byte : ℕ) → given ≤ taken → TurnsOn from now old buf count from_taken from_given taken given
+    → IsPairAt now next buf taken count byte → TurnsOn from next old (set buf given byte) count from_taken from_given (taken + 2) (given + 1)
+turns_pair from now next old buf count from_taken from_given taken given byte few t p =
+    λ start text within before. pair_turn start now next text buf count taken given byte within few (t start text within before) p

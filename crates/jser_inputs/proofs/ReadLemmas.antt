@@ -5,7 +5,7 @@ use Rattle.jser_inputs.specs.declared.place.Place.TheVariants as place
 use Rattle.jser_inputs.specs.declared.spot.Spot.{Spot}
 use Rattle.jser_inputs.specs.declared.spot.Move.{Move}
 use Rattle.jser_inputs.specs.declared.spot.Move.TheVariants as move
-use Rattle.jser_inputs.specs.Digits.{is_space}
+use Rattle.jser_inputs.specs.Spaces.{is_space}
 use Rattle.jser_inputs.specs.Places.{move_of}
 use Rattle.jser_inputs.specs.Spelled.{Reads, spelled, right_until, follows, counted, no_byte}
 

@@ -1,4 +1,4 @@
-pub mod Digits
+pub mod Spaces
 pub mod Places
 pub mod Spelled
 pub mod Groups

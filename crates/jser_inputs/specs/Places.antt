@@ -3,8 +3,8 @@ use Rattle.std.specs.Prelude.{ℕ, ◌+◌, ◌-◌, ◌*◌, ◌/◌, ◌%◌, 
 use Rattle.hex.specs.Hex.{hex_digit_value}
 use Rattle.jser_inputs.specs.declared.form.Form.{Form}
 use Rattle.jser_inputs.specs.declared.form.Form.TheVariants as form
-use Rattle.jser_inputs.specs.declared.digit.Alphabet.{Alphabet}
-use Rattle.jser_inputs.specs.declared.digit.Alphabet.TheVariants as alphabet
+use Rattle.jser_digits.specs.declared.digit.Alphabet.{Alphabet}
+use Rattle.jser_digits.specs.declared.digit.Alphabet.TheVariants as alphabet
 use Rattle.jser_inputs.specs.declared.place.Place.{Place}
 use Rattle.jser_inputs.specs.declared.place.Place.TheVariants as place
 use Rattle.jser_inputs.specs.declared.place.Step.{Step}
@@ -12,7 +12,8 @@ use Rattle.jser_inputs.specs.declared.place.Step.TheVariants as step
 use Rattle.jser_inputs.specs.declared.spot.Spot.{Spot}
 use Rattle.jser_inputs.specs.declared.spot.Move.{Move}
 use Rattle.jser_inputs.specs.declared.spot.Move.TheVariants as move
-use Rattle.jser_inputs.specs.Digits.{is_space, value_in}
+use Rattle.jser_inputs.specs.Spaces.{is_space}
+use Rattle.jser_digits.specs.Digits.{value_in}
 
 -- the bits that have not gone out are as many as the digits so far leave
 abbrev pub Fits : Place → Type 0

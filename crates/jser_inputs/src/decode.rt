@@ -1,10 +1,10 @@
 //! The text of one read becomes bytes, in the place where it was read: no character completes more than one.
-ghost use Rattle.std.specs.Prelude.{◌≡◌, ◌≤◌, ◌<◌, ◌+◌, ◌-◌, ◌^◌, ◌⊎◌, [], length, take, true, IfSome};
+ghost use Rattle.std.specs.Prelude.{◌≡◌, ◌≤◌, ◌<◌, ◌+◌, ◌-◌, ◌^◌, ◌⊎◌, [], length, take, true};
 ghost use Rattle.jser_inputs.specs.Places.{Fits, is_wrong};
-ghost use Rattle.jser_inputs.specs.Groups.{IsGroupAt};
+ghost use Rattle.jser_inputs.specs.Groups.{TurnsOn};
 ghost use Rattle.jser_inputs.specs.Spelled.{Reads};
 
-use crate::group::{Group, group_of};
+use crate::group::{take_groups, take_pairs};
 use crate::place::Place;
 use crate::spot::{Move, Spot, move_of};
 
@@ -58,14 +58,12 @@ fn decode_text(start: Spot, buf: &mut [u8], count: usize) -> Piece
     let mut given = 0;
     let mut taken = 0;
     'characters: while taken < count {
-        if let Some(group) = group_at(spot, buf, taken, count) {
-            buf[given] = group.first;
-            buf[given + 1] = group.second;
-            buf[given + 2] = group.third;
-            given += 3;
-            taken += 4;
-            spot = group.next;
-            continue;
+        let run = take_run(Piece { given, taken, spot }, buf, count);
+        given = run.given;
+        taken = run.taken;
+        spot = run.spot;
+        if taken >= count {
+            return run;
         }
         match move_of(spot, buf[taken]) {
             Move::Goes(next) => {
@@ -93,16 +91,24 @@ fn decode_text(start: Spot, buf: &mut [u8], count: usize) -> Piece
     Piece { given, taken, spot }
 }
 
-/// The group that begins here, if one does and all of it is there.
+/// Takes whole pairs or groups from here on, where one may begin.
+#[tactic(auto, using(crate::proofs::GroupLemmas::turns_none))]
 #[inline(always)]
-fn group_at(spot: Spot, buf: &[u8], at: usize, count: usize) -> Option<Group>
-    requires room { spot.spare + (count - at) < 2 ^ 64 }
-    requires inside { count ≤ length buf.now }
-    requires begun { at < count }
-    ensures { IfSome result (IsGroupAt spot buf.now at count) }
+fn take_run(from: Piece, buf: &mut [u8], count: usize) -> Piece
+    requires inside { count ≤ length buf.old }
+    requires few { (from.given ≤ from.taken) × (from.taken ≤ count) }
+    requires fits { Fits from.spot.place }
+    requires room { from.spot.spare + (count - from.taken) < 2 ^ 64 }
+    ensures turns { TurnsOn from.spot result.spot buf.old buf.new count from.taken from.given result.taken result.given }
+    ensures few { (result.given ≤ result.taken) × (result.taken ≤ count) }
+    ensures ahead { from.taken ≤ result.taken }
+    ensures fits { Fits result.spot.place }
+    ensures room { result.spot.spare + from.taken ≤ from.spot.spare + result.taken }
+    ensures size { length buf.new ≡ length buf.old }
 {
-    if count - at < 4 {
-        return None;
+    match from.spot.place {
+        Place::High => take_pairs(from, buf, count),
+        Place::First { alphabet } => take_groups(alphabet, from, buf, count),
+        _ => from,
     }
-    group_of(spot, [buf[at], buf[at + 1], buf[at + 2], buf[at + 3]])
 }

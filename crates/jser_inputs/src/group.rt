@@ -1,42 +1,90 @@
-//! A whole group of base64: four digits, which are three bytes. Texts hold little else.
-ghost use Rattle.std.specs.Prelude.{◌≡◌, ◌<◌, ◌+◌, ◌^◌, IfSome, get_or};
-ghost use Rattle.jser_inputs.specs.Groups.{IsGroup};
+//! Whole groups of base64 and whole pairs of hexadecimal digits, one after another. Texts hold little else.
+ghost use Rattle.std.specs.Prelude.{◌≡◌, ◌≤◌, ◌<◌, ◌+◌, ◌-◌, ◌^◌, length};
+ghost use Rattle.jser_inputs.specs.declared.place.Place.TheVariants as ThePlace;
+ghost use Rattle.jser_inputs.specs.Groups.{TurnsOn};
+ghost use Rattle.jser_inputs.specs.Places.{Fits};
 
-use crate::digit::base64_digit;
+use crate::decode::Piece;
 use crate::place::Place;
 use crate::spot::Spot;
+use jser_digits::{Alphabet, NO_GROUP, NO_PAIR, group_bits, pair_bits};
 
-/// Three bytes, and where the text is behind them.
-#[derive(Clone, Copy, Debug)]
-pub(crate) struct Group {
-    pub(crate) first: u8,
-    pub(crate) second: u8,
-    pub(crate) third: u8,
-    pub(crate) next: Spot,
+/// Takes pairs of digits from here on, as long as there are.
+#[tactic(auto, using(crate::proofs::RunLemmas::run_begins, crate::proofs::RunLemmas::pair_step))]
+pub(crate) fn take_pairs(from: Piece, buf: &mut [u8], count: usize) -> Piece
+    requires place { from.spot.place ≡ ThePlace.High }
+    requires inside { count ≤ length buf.old }
+    requires few { (from.given ≤ from.taken) × (from.taken ≤ count) }
+    requires room { from.spot.spare + (count - from.taken) < 2 ^ 64 }
+    ensures turns { TurnsOn from.spot result.spot buf.old buf.new count from.taken from.given result.taken result.given }
+    ensures few { (result.given ≤ result.taken) × (result.taken ≤ count) }
+    ensures ahead { from.taken ≤ result.taken }
+    ensures fits { Fits result.spot.place }
+    ensures room { result.spot.spare + from.taken ≤ from.spot.spare + result.taken }
+    ensures size { length buf.new ≡ length buf.old }
+{
+    let mut given = from.given;
+    let mut taken = from.taken;
+    'pairs: while count - taken >= 2 {
+        let bits = pair_bits(buf[taken], buf[taken + 1]);
+        if bits >= NO_PAIR {
+            break;
+        }
+        buf[given] = bits as u8;
+        given += 1;
+        taken += 2;
+    }
+    let spare = from.spot.spare + (given - from.given) as u64;
+    Piece {
+        given,
+        taken,
+        spot: Spot {
+            place: Place::High,
+            spare,
+        },
+    }
 }
 
-/// The bytes of these four characters, if a group begins here and all of them are its digits.
-#[tactic(auto, using(crate::proofs::DigitLemmas::four_digits))]
-#[inline(always)]
-pub(crate) fn group_of(spot: Spot, text: [u8; 4]) -> Option<Group>
-    requires room { spot.spare + 4 < 2 ^ 64 }
-    ensures { IfSome result (IsGroup spot (get_or text 0 0) (get_or text 1 0) (get_or text 2 0) (get_or text 3 0)) }
+/// Takes groups of digits from here on, as long as there are.
+#[tactic(auto, using(crate::proofs::RunLemmas::run_begins, crate::proofs::BitStepLemmas::bits_step))]
+pub(crate) fn take_groups(alphabet: Alphabet, from: Piece, buf: &mut [u8], count: usize) -> Piece
+    requires place { from.spot.place ≡ ThePlace.First alphabet }
+    requires inside { count ≤ length buf.old }
+    requires few { (from.given ≤ from.taken) × (from.taken ≤ count) }
+    requires room { from.spot.spare + (count - from.taken) < 2 ^ 64 }
+    ensures turns { TurnsOn from.spot result.spot buf.old buf.new count from.taken from.given result.taken result.given }
+    ensures few { (result.given ≤ result.taken) × (result.taken ≤ count) }
+    ensures ahead { from.taken ≤ result.taken }
+    ensures fits { Fits result.spot.place }
+    ensures room { result.spot.spare + from.taken ≤ from.spot.spare + result.taken }
+    ensures size { length buf.new ≡ length buf.old }
 {
-    let Place::First { alphabet } = spot.place else {
-        return None;
-    };
-    let [a, b, c, d] = text;
-    let one = base64_digit(alphabet, a)?;
-    let two = base64_digit(alphabet, b)?;
-    let three = base64_digit(alphabet, c)?;
-    let four = base64_digit(alphabet, d)?;
-    Some(Group {
-        first: one * 4 + two / 16,
-        second: two % 16 * 16 + three / 4,
-        third: three % 4 * 64 + four,
-        next: Spot {
+    let mut given = from.given;
+    let mut taken = from.taken;
+    'groups: while count - taken >= 4 {
+        let bits = group_bits(
+            alphabet,
+            buf[taken],
+            buf[taken + 1],
+            buf[taken + 2],
+            buf[taken + 3],
+        );
+        if bits >= NO_GROUP {
+            break;
+        }
+        buf[given] = (bits / 65536) as u8;
+        buf[given + 1] = (bits / 256 % 256) as u8;
+        buf[given + 2] = (bits % 256) as u8;
+        given += 3;
+        taken += 4;
+    }
+    let spare = from.spot.spare + (given - from.given) as u64;
+    Piece {
+        given,
+        taken,
+        spot: Spot {
             place: Place::First { alphabet },
-            spare: spot.spare + 3,
+            spare,
         },
-    })
+    }
 }

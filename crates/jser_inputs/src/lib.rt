@@ -7,11 +7,11 @@
 mod decode;
 mod decoded;
 mod decoder;
-mod digit;
 mod fault;
 mod form;
 mod group;
 mod place;
+mod space;
 mod spot;
 
 pub use decoded::Decoded;

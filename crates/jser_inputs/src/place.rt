@@ -2,8 +2,8 @@
 ghost use Rattle.std.specs.Prelude.{◌≡◌, ◌<◌};
 ghost use Rattle.jser_inputs.specs.Places.{Fits, FitsStep, first_place, is_whole, is_wrong, step_by_place, after_high, after_low, after_first, after_second, after_third, after_fourth, after_padding, pads};
 
-use crate::digit::{Alphabet, base64_digit, hex_digit};
 use crate::form::Form;
+use jser_digits::{Alphabet, base64_digit, hex_digit};
 
 /// Where a text is.
 #[derive(Clone, Copy, PartialEq, Eq, Debug)]

@@ -3,9 +3,9 @@
 ghost use Rattle.std.specs.Prelude.{◌≡◌, ◌<◌, ◌-◌, ◌^◌};
 ghost use Rattle.jser_inputs.specs.Places.{Fits, FitsMove, FitsStep, first_spot, move_of, move_over_space, moved, space_passed};
 
-use crate::digit::is_space;
 use crate::form::Form;
 use crate::place::{Place, Step, first_place, step_by_place};
+use crate::space::is_space;
 
 /// How many characters of white space may come before the first byte.
 const SPARE_SPACE: u64 = 1_048_576;

@@ -9,7 +9,7 @@ use Rattle.jser_inputs.specs.declared.place.Step.TheVariants as step
 use Rattle.jser_inputs.specs.declared.spot.Spot.{Spot}
 use Rattle.jser_inputs.specs.declared.spot.Move.TheVariants as move
 use Rattle.jser_inputs.specs.Decoding.{TextRead, misspelled, text_fault}
-use Rattle.jser_inputs.specs.Digits.{is_space}
+use Rattle.jser_inputs.specs.Spaces.{is_space}
 use Rattle.jser_inputs.specs.Places.{first_spot, is_whole, is_wrong, move_of, moved}
 use Rattle.jser_inputs.specs.Spelled.{Reads, counted, follows, no_byte, right_until, spelled}
 use Rattle.jser_scan.specs.declared.Found.{Found}

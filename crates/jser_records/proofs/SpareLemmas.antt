@@ -2,14 +2,15 @@
 use Rattle.std.proofs.Common.{◌≡◌, ℕ, zero, suc, ◌+◌, ◌-◌, ◌≤◌, ◌==◌, length, Bool, true, false, if◌then◌else◌, List, [], ◌∷◌, ◌++◌, Option, Some, None, refl, sym, ap, subst, ◌∙◌, arith, append-nil, inl, inr, ◌≢◌}
 use Rattle.std.proofs.lemmas.Bool.{cases_lt, eqb-false, ne_eqb}
 use Rattle.hex.specs.Hex.{hex_digit_value}
-use Rattle.jser_inputs.specs.declared.digit.Alphabet.{Alphabet}
+use Rattle.jser_digits.specs.declared.digit.Alphabet.{Alphabet}
 use Rattle.jser_inputs.specs.declared.place.Place.{Place}
 use Rattle.jser_inputs.specs.declared.place.Place.TheVariants as place
 use Rattle.jser_inputs.specs.declared.place.Step.TheVariants as step
 use Rattle.jser_inputs.specs.declared.spot.Spot.{Spot}
 use Rattle.jser_inputs.specs.declared.spot.Move.{Move}
 use Rattle.jser_inputs.specs.declared.spot.Move.TheVariants as move
-use Rattle.jser_inputs.specs.Digits.{is_space, value_in}
+use Rattle.jser_inputs.specs.Spaces.{is_space}
+use Rattle.jser_digits.specs.Digits.{value_in}
 use Rattle.jser_inputs.specs.Places.{first_read, fourth_read, high_read, is_wrong, low_read, move_of, move_over_space, moved, second_read, space_passed, step_by_place, third_read}
 use Rattle.jser_inputs.specs.Spelled.{Reads, counted, right_until}
 

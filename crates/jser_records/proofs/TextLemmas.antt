@@ -7,7 +7,7 @@ use Rattle.std.proofs.lemmas.List.Edits.{map_over_more}
 use Rattle.std.specs.Option.{is_some}
 use Rattle.std.specs.Prelude.{slice_index}
 use Rattle.memchr.specs.Find.{IsFirstByte, is_byte}
-use Rattle.jser_inputs.specs.Digits.{is_space}
+use Rattle.jser_inputs.specs.Spaces.{is_space}
 use Rattle.jser_records.specs.Texts.{blanked, characters_in, without_space}
 
 -- a text without a backslash

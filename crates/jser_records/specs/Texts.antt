@@ -2,7 +2,7 @@
 use Rattle.std.specs.Prelude.{ℕ, ◌==◌, ◌&&◌, ◌||◌, Bool, false, drop, map, if◌then◌else◌, List, [], ◌∷◌}
 use Rattle.jser_inputs.specs.declared.Form.{Form}
 use Rattle.jser_inputs.specs.declared.Form.TheVariants as form
-use Rattle.jser_inputs.specs.Digits.{is_space}
+use Rattle.jser_inputs.specs.Spaces.{is_space}
 
 -- White space, which the decoder passes over, is no character of a value: it is as a NUL, which is no digit of any form.
 abbrev pub without_space : ℕ → ℕ

@@ -6,13 +6,14 @@ use Rattle.base64.specs.GeneralPurpose.{IsBytes, engine_symbols}
 use Rattle.base64.specs.Engines.{standard, url_safe}
 use Rattle.base64.specs.Rfc4648.{encode_symbols, padding_len}
 use Rattle.base64.proofs.Tables.{all_below_at}
-use Rattle.jser_inputs.specs.declared.digit.Alphabet.{Alphabet}
-use Rattle.jser_inputs.specs.declared.digit.Alphabet.TheVariants as alphabet
+use Rattle.jser_digits.specs.declared.digit.Alphabet.{Alphabet}
+use Rattle.jser_digits.specs.declared.digit.Alphabet.TheVariants as alphabet
 use Rattle.jser_inputs.specs.declared.place.Place.{Place}
 use Rattle.jser_inputs.specs.declared.place.Place.TheVariants as place
 use Rattle.jser_inputs.specs.declared.spot.Spot.{Spot}
 use Rattle.jser_inputs.specs.declared.spot.Move.TheVariants as move
-use Rattle.jser_inputs.specs.Digits.{value_in, is_space}
+use Rattle.jser_inputs.specs.Spaces.{is_space}
+use Rattle.jser_digits.specs.Digits.{value_in}
 use Rattle.jser_inputs.specs.Places.{first_read, fourth_read, move_of, move_over_space, moved, pads, second_read, spare_space, step_by_place, third_read}
 use Rattle.jser_inputs.specs.Spelled.{follows, spelled}
 use Rattle.uses_inputs.specs.Laws.{Base64IsSpelled}

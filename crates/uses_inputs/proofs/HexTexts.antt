@@ -7,7 +7,7 @@ use Rattle.jser_inputs.specs.declared.place.Place.{Place}
 use Rattle.jser_inputs.specs.declared.place.Place.TheVariants as place
 use Rattle.jser_inputs.specs.declared.spot.Spot.{Spot}
 use Rattle.jser_inputs.specs.declared.spot.Move.TheVariants as move
-use Rattle.jser_inputs.specs.Digits.{is_space}
+use Rattle.jser_inputs.specs.Spaces.{is_space}
 use Rattle.jser_inputs.specs.Places.{after_high, after_low, high_read, low_read, move_of, move_over_space, moved, spare_space}
 use Rattle.jser_inputs.specs.Spelled.{follows, spelled}
 use Rattle.uses_inputs.specs.Laws.{HexIsSpelled}

@@ -8,7 +8,7 @@ use Rattle.jser_inputs.specs.declared.spot.Spot.{Spot}
 use Rattle.jser_inputs.specs.declared.spot.Move.TheVariants as move
 use Rattle.jser_inputs.specs.declared.InputFault.TheVariants as fault
 use Rattle.jser_inputs.specs.Decoding.{Decoding, KeepsNumber, fault_in, misspelled, right_in}
-use Rattle.jser_inputs.specs.Digits.{is_space}
+use Rattle.jser_inputs.specs.Spaces.{is_space}
 use Rattle.jser_inputs.specs.Places.{first_spot, is_wrong}
 use Rattle.jser_inputs.specs.Spelled.{counted, right_until}
 
