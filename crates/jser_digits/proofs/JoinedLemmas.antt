@@ -8,23 +8,7 @@ use Rattle.jser_digits.specs.declared.digit.Alphabet.{Alphabet}
 use Rattle.jser_digits.specs.declared.digit.Alphabet.TheVariants as alphabet
 use Rattle.jser_digits.specs.Digits.{value_in, either_value, standard_value, url_safe_value}
 use Rattle.jser_digits.specs.Joined.{AreGroup, ArePair}
-
-standard_small : (c v : ℕ) → standard_value c ≡ Some v → v < 64
-standard_small c v e = grind (arith, nat_tests, e)
-
-url_small : (c v : ℕ) → url_safe_value c ≡ Some v → v < 64
-url_small c v e = grind (arith, nat_tests, e)
-
-either_small : (c v : ℕ) → either_value c ≡ Some v → v < 64
-either_small c v e = grind (arith, nat_tests, e)
-
-small : (letters : Alphabet) (c v : ℕ) → value_in letters c ≡ Some v → v < 64
-small alphabet.Standard c v e = standard_small c v e
-small alphabet.UrlSafe c v e = url_small c v e
-small alphabet.Either c v e = either_small c v e
-
-hex_small : (c v : ℕ) → hex_digit_value c ≡ Some v → v < 16
-hex_small c v e = grind (arith, nat_tests, e)
+use Rattle.jser_digits.proofs.DigitLemmas.{hex_small, small}
 
 -- a digit that was looked up, where its value is below 2^24
 record Digit (o : Option ℕ) (value : ℕ) : Type 0 where

@@ -1,42 +1,31 @@
 -- What a text spells are bytes.
-use Rattle.std.proofs.Common.{◌≡◌, ℕ, ◌+◌, ◌-◌, ◌<◌, ◌≤◌, Bool, true, false, ◌&&◌, ◌||◌, ◌==◌, nat_le, nat_lt, if◌then◌else◌, IfSome, IsTrue, List, [], ◌∷◌, refl, sym, subst, arith, leb-true, lt-ltb, Option, Some, None}
+use Rattle.std.proofs.Common.{◌≡◌, ℕ, ◌<◌, Bool, true, false, ◌&&◌, ◌||◌, ◌==◌, nat_lt, if◌then◌else◌, IfSome, IsTrue, List, [], ◌∷◌, refl, sym, subst, arith, lt-ltb, Option, Some, None}
 use Rattle.std.specs.List.{list_all}
 use Rattle.jser_find.specs.declared.spot.Digit.{Digit}
 use Rattle.jser_find.specs.declared.spot.Digit.TheVariants as digit
+use Rattle.jser_find.specs.declared.spot.Last.{Last}
+use Rattle.jser_find.specs.declared.spot.Last.TheVariants as last
 use Rattle.jser_find.specs.declared.spot.Spot.{Spot}
 use Rattle.jser_find.specs.declared.spot.Step.{Step}
 use Rattle.jser_find.specs.declared.spot.Step.TheVariants as step
-use Rattle.jser_find.specs.Digits.{base64_value, hexadecimal_value}
+use Rattle.hex.specs.Hex.{hex_digit_value}
+use Rattle.jser_digits.specs.Digits.{either_value}
+use Rattle.jser_digits.proofs.DigitLemmas.{either_small, hex_small}
 use Rattle.jser_find.specs.Spelled.{follows, spelled}
-use Rattle.jser_find.specs.Spots.{Fits, FitsStep, digit_step, digit_value, escaped_step, radix, step_of, step_with, value_step}
+use Rattle.jser_find.specs.Spots.{Fits, FitsStep, digit_step, digit_value, open_step, radix, step_behind, step_of, step_with, value_step}
 use Rattle.jser_grammar.specs.Parts.{IsBytes}
 
 -- ---- digits are small
 
-small_if : (test : Bool) (bound : ℕ) (a b : Option ℕ) → (test ≡ true → IfSome a (λ v. v < bound)) → IfSome b (λ v. v < bound) → IfSome (if test then a else b) (λ v. v < bound)
-small_if true bound a b x y = x refl
-small_if false bound a b x y = y
+small_if : (bound : ℕ) (o : Option ℕ) → ((v : ℕ) → o ≡ Some v → v < bound) → IfSome o (λ v. v < bound)
+small_if bound None is = tt
+small_if bound (Some v) is = is v refl
 
-right_of : (a b : Bool) → (a && b) ≡ true → b ≡ true
-right_of true b e = e
-right_of false b e = absurd (cc)
+hexadecimal_small : (c : ℕ) → IfSome (hex_digit_value c) (λ v. v < 16)
+hexadecimal_small c = small_if 16 (hex_digit_value c) (hex_small c)
 
-up_to : (low high c : ℕ) → (nat_le low c && nat_le c high) ≡ true → c ≤ high
-up_to low high c e = leb-true c high (right_of (nat_le low c) (nat_le c high) e)
-
-hexadecimal_small : (c : ℕ) → IfSome (hexadecimal_value c) (λ v. v < 16)
-hexadecimal_small c =
-    small_if (nat_le 0x30 c && nat_le c 0x39) 16 (Some (c - 0x30)) _ (λ e. omega (arith, up_to 0x30 0x39 c e))
-    (small_if (nat_le 0x61 c && nat_le c 0x66) 16 (Some (c - 0x61 + 10)) _ (λ e. omega (arith, up_to 0x61 0x66 c e))
-    (small_if (nat_le 0x41 c && nat_le c 0x46) 16 (Some (c - 0x41 + 10)) None (λ e. omega (arith, up_to 0x41 0x46 c e)) tt))
-
-base64_small : (c : ℕ) → IfSome (base64_value c) (λ v. v < 64)
-base64_small c =
-    small_if (nat_le 0x41 c && nat_le c 0x5A) 64 (Some (c - 0x41)) _ (λ e. omega (arith, up_to 0x41 0x5A c e))
-    (small_if (nat_le 0x61 c && nat_le c 0x7A) 64 (Some (c - 0x61 + 26)) _ (λ e. omega (arith, up_to 0x61 0x7A c e))
-    (small_if (nat_le 0x30 c && nat_le c 0x39) 64 (Some (c - 0x30 + 52)) _ (λ e. omega (arith, up_to 0x30 0x39 c e))
-    (small_if (c == 0x2B || c == 0x2D) 64 (Some 62) _ (λ e. omega arith)
-    (small_if (c == 0x2F || c == 0x5F) 64 (Some 63) None (λ e. omega arith) tt))))
+base64_small : (c : ℕ) → IfSome (either_value c) (λ v. v < 64)
+base64_small c = small_if 64 (either_value c) (either_small c)
 
 -- ---- a character completes a byte
 
@@ -67,13 +56,16 @@ fits_if : (test : Bool) (a b : Step) → FitsStep a → FitsStep b → FitsStep 
 fits_if true a b x y = x
 fits_if false a b x y = y
 
-escaped_fits : (next : Digit) (c : ℕ) → Fits next → FitsStep (escaped_step next c)
-escaped_fits next c fits = fits_if (c == 0x6E || c == 0x72) _ _ fits (fits_if (c == 0x2F) _ step.Ends (digit_fits next c fits) tt)
+open_fits : (next : Digit) (c : ℕ) → Fits next → FitsStep (open_step next c)
+open_fits next c fits = fits_if (c == 0x0A || c == 0x0D) _ _ fits (fits_if (c == 0x5C) _ _ fits (digit_fits next c fits))
 
 step_fits : (spot : Spot) (c : ℕ) → Fits spot.next → FitsStep (step_of spot c)
-step_fits spot c fits =
-    fits_if spot.escaped _ _ (escaped_fits spot.next c fits)
-    (fits_if (c == 0x0A || c == 0x0D) (step.Goes spot) _ fits (fits_if (c == 0x5C) _ _ fits (digit_fits spot.next c fits)))
+step_fits spot c fits = by spot.last
+  where
+    by : (before : Last) → FitsStep (step_behind before spot.next c)
+    by last.Digit = open_fits spot.next c fits
+    by last.LineEnd = fits_if (c == 0x20 || c == 0x09) _ _ fits (open_fits spot.next c fits)
+    by last.Backslash = fits_if (c == 0x6E || c == 0x72) _ _ fits (fits_if (c == 0x2F) _ step.Ends (digit_fits spot.next c fits) tt)
 
 -- ---- so they are bytes
 

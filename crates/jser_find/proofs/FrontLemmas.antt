@@ -1,9 +1,10 @@
 -- The front of the bytes that a text spells.
-use Rattle.std.proofs.Common.{◌≡◌, ◌≢◌, ℕ, zero, suc, ◌+◌, ◌-◌, ◌<◌, ◌≤◌, List, [], ◌∷◌, ◌++◌, length, take, drop, get_or, refl, sym, ap, ◌∙◌, arith, append_assoc, append-nil, add-zero, Some, None}
+use Rattle.std.proofs.Common.{◌≡◌, ◌≢◌, ℕ, zero, suc, ◌+◌, ◌-◌, ◌<◌, ◌≤◌, List, [], ◌∷◌, ◌++◌, length, take, drop, get_or, refl, sym, ap, subst, ◌∙◌, arith, append_assoc, append-nil, add-zero, Some, None}
 use Rattle.jser_find.specs.declared.spot.Spot.{Spot}
+use Rattle.jser_find.specs.declared.group.Group.{Group}
 use Rattle.jser_find.specs.declared.spelled.Given.{Given}
 use Rattle.jser_find.specs.declared.spelled.Reading.{Reading}
-use Rattle.jser_find.specs.Spelled.{GivesNext, IsIn, bytes_from, place_until, until}
+use Rattle.jser_find.specs.Spelled.{GivesGroup, GivesNext, IsIn, bytes_from, place_until, until}
 
 -- these bytes, and of what is left so many, are so many of all
 pub record HasFront (text : List ℕ) (from : Reading) (count : ℕ) (bytes : List ℕ) (now : Reading) (left : ℕ) : Type 0 where
@@ -24,6 +25,18 @@ front_more text from now count left bytes given some gives h = record {
   front = h.front ∙ ap (λ xs. bytes ++ take left xs) gives.bytes ∙ ap (λ xs. bytes ++ xs) (take_one left given.byte (bytes_from text given.then) some)
       ∙ sym (append_assoc bytes (given.byte ∷ []) (take (left - 1) (bytes_from text given.then)));
 }
+
+pub front_group : (text : List ℕ) (from now : Reading) (count left : ℕ) (bytes : List ℕ) (group : Group) → 3 ≤ left → GivesGroup text now group
+    → HasFront text from count bytes now left → HasFront text from count (bytes ++ (group.first ∷ group.second ∷ group.third ∷ [])) group.then (left - 3)
+front_group text from now count left bytes group some g h =
+    let one = front_more text from now count left bytes (record { byte = group.first; then = g.second_from }) (omega (arith, some)) g.first h in
+    let two = front_more text from g.second_from count (left - 1) (bytes ++ (group.first ∷ [])) (record { byte = group.second; then = g.third_from }) (omega (arith, some)) g.second one in
+    let all = front_more text from g.third_from count (left - 1 - 1) ((bytes ++ (group.first ∷ [])) ++ (group.second ∷ [])) (record { byte = group.third; then = group.then })
+    (omega (arith, some)) g.third two in
+    let less : left - 1 - 1 - 1 ≡ left - 3 = omega arith in
+    subst (λ n. HasFront text from count (bytes ++ (group.first ∷ group.second ∷ group.third ∷ [])) group.then n) less
+    (subst (λ xs. HasFront text from count xs group.then (left - 1 - 1 - 1))
+    (append_assoc (bytes ++ (group.first ∷ [])) (group.second ∷ []) (group.third ∷ []) ∙ append_assoc bytes (group.first ∷ []) (group.second ∷ group.third ∷ [])) all)
 
 take_nothing : (left : ℕ) → take {A = ℕ} left [] ≡ []
 take_nothing zero = refl
@@ -92,6 +105,15 @@ places_more text from now count left given some gives h =
       enough = omega arith;
       places = h.places ∙ ap (place_until text now) (suc_of left some) ∙ gives.places (left - 1);
     }
+
+pub places_group : (text : List ℕ) (from now : Reading) (count left : ℕ) (group : Group) → 3 ≤ left → GivesGroup text now group
+    → HasPlaces text from count now left → HasPlaces text from count group.then (left - 3)
+places_group text from now count left group some g h =
+    let one = places_more text from now count left (record { byte = group.first; then = g.second_from }) (omega (arith, some)) g.first h in
+    let two = places_more text from g.second_from count (left - 1) (record { byte = group.second; then = g.third_from }) (omega (arith, some)) g.second one in
+    let all = places_more text from g.third_from count (left - 1 - 1) (record { byte = group.third; then = group.then }) (omega (arith, some)) g.third two in
+    let less : left - 1 - 1 - 1 ≡ left - 3 = omega arith in
+    subst (λ n. HasPlaces text from count group.then n) less all
 
 until_none : (spot : Spot) (text : List ℕ) → until spot text 0 ≡ 0
 unfolding until

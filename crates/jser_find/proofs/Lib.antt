@@ -8,3 +8,5 @@ pub mod FrontLemmas
 pub mod SpelledLemmas
 pub mod StartLemmas
 pub mod TextLemmas
+pub mod MarkLemmas
+pub mod GroupLemmas

@@ -1,16 +1,20 @@
 -- Where the header of a stream begins in a text.
 use Rattle.std.proofs.Common.{◌≡◌, ℕ, ◌+◌, ◌%◌, ◌<◌, ◌≤◌, ◌⊎◌, ◌==◌, ◌||◌, Bool, true, false, if◌then◌else◌, List, [], ◌∷◌, length, take, drop, get_or, IfSome, refl, sym, ap, subst, ◌∙◌, arith, inl, inr, ⊎_elim, eq-or-lt_of_le, Option, Some, None}
 use Rattle.std.proofs.lemmas.Bool.Decides.{nat_tests}
+use Rattle.std.proofs.lemmas.Bool.{cases_lt}
 use Rattle.memchr.specs.Find.{Nowhere}
 use Rattle.jser_find.specs.declared.spot.Digit.TheVariants as digit
 use Rattle.jser_find.specs.declared.spelled.Reading.{Reading}
 use Rattle.jser_grammar.specs.Wire.{stream_header}
 use Rattle.jser_find.specs.declared.spot.Digit.{Digit}
+use Rattle.jser_find.specs.declared.spot.Last.{Last}
+use Rattle.jser_find.specs.declared.spot.Last.TheVariants as last
 use Rattle.jser_find.specs.declared.spot.Step.{Step}
 use Rattle.jser_find.specs.declared.spot.Step.TheVariants as step
-use Rattle.jser_find.specs.Digits.{base64_value, hexadecimal_value}
+use Rattle.hex.specs.Hex.{hex_digit_value}
+use Rattle.jser_digits.specs.Digits.{either_value}
 use Rattle.jser_find.specs.Spelled.{follows, spelled}
-use Rattle.jser_find.specs.Spots.{before, digit_step, digit_value, radix, step_of, step_with, value_step}
+use Rattle.jser_find.specs.Spots.{behind, digit_step, digit_value, open_step, radix, step_of, step_with, value_step}
 use Rattle.jser_find.specs.Starts.{HasHeaderTextAt, IsFirstStart, ReadsFrom, ReadsGroup, ReadsPair, SpellsHeader, StartsAt, StartsBy, leads, reading_before}
 use Rattle.jser_find.proofs.BytesLemmas.{value_small}
 
@@ -40,38 +44,46 @@ led_with next (Some value) small e = led_value next value small e
 led_digit : (next : Digit) (c : ℕ) → leads next ≡ false → IsLed next (digit_step next c)
 led_digit next c e = led_with next (digit_value next c) (value_small next c) e
 
-led_step : (next : Digit) (escaped : Bool) (c : ℕ) → leads next ≡ false → IsLed next (step_of (record { next = next; escaped = escaped }) c)
-led_step next true c e = by (c == 0x6E || c == 0x72) (c == 0x2F)
-  where
-    by : (line slash : Bool) → IsLed next (if line then step.Goes (before next) else (if slash then digit_step next c else step.Ends))
-    by true slash = refl
-    by false true = led_digit next c e
-    by false false = tt
-led_step next false c e = by (c == 0x0A || c == 0x0D) (c == 0x5C)
+led_open : (next : Digit) (c : ℕ) → leads next ≡ false → IsLed next (open_step next c)
+led_open next c e = by (c == 0x0A || c == 0x0D) (c == 0x5C)
   where
     by : (line slash : Bool)
-        → IsLed next (if line then step.Goes (before next) else (if slash then step.Goes (record { next = next; escaped = true }) else digit_step next c))
+        → IsLed next (if line then step.Goes (behind last.LineEnd next) else (if slash then step.Goes (behind last.Backslash next) else digit_step next c))
     by true slash = refl
     by false true = refl
     by false false = led_digit next c e
 
+led_step : (next : Digit) (what : Last) (c : ℕ) → leads next ≡ false → IsLed next (step_of (behind what next) c)
+led_step next last.Digit c e = led_open next c e
+led_step next last.LineEnd c e = by (c == 0x20 || c == 0x09)
+  where
+    by : (blank : Bool) → IsLed next (if blank then step.Goes (behind last.LineEnd next) else open_step next c)
+    by true = refl
+    by false = led_open next c e
+led_step next last.Backslash c e = by (c == 0x6E || c == 0x72) (c == 0x2F)
+  where
+    by : (line slash : Bool) → IsLed next (if line then step.Goes (behind last.LineEnd next) else (if slash then digit_step next c else step.Ends))
+    by true slash = refl
+    by false true = led_digit next c e
+    by false false = tt
+
 first_is : (byte : ℕ) (rest : List ℕ) → take 4 (byte ∷ rest) ≡ stream_header → byte ≡ 0xAC
 first_is byte rest e = ap (λ xs. get_or xs 0 0) e
 
-not_spelled : (next : Digit) (escaped : Bool) (text : List ℕ) → leads next ≡ false → take 4 (spelled (record { next = next; escaped = escaped }) text) ≡ stream_header → ⊥
+not_spelled : (next : Digit) (what : Last) (text : List ℕ) → leads next ≡ false → take 4 (spelled (behind what next) text) ≡ stream_header → ⊥
 unfolding spelled
-not_spelled next escaped [] e is = let no : [] ≡ stream_header = is in cc
-not_spelled next escaped (c ∷ text) e is =
-    by (λ again h. not_spelled next again text e h) (step_of (record { next = next; escaped = escaped }) c) (led_step next escaped c e) is
+not_spelled next what [] e is = let no : [] ≡ stream_header = is in cc
+not_spelled next what (c ∷ text) e is =
+    by (λ again h. not_spelled next again text e h) (step_of (behind what next) c) (led_step next what c e) is
   where
-    by : ((again : Bool) → take 4 (spelled (record { next = next; escaped = again }) text) ≡ stream_header → ⊥) → (s : Step) → IsLed next s
+    by : ((again : Last) → take 4 (spelled (behind again next) text) ≡ stream_header → ⊥) → (s : Step) → IsLed next s
         → take 4 (follows s (λ spot. spelled spot text)) ≡ stream_header → ⊥
-    by f (step.Goes spot) led h = f spot.escaped (subst (λ n. take 4 (spelled (record { next = n; escaped = spot.escaped }) text) ≡ stream_header) led h)
+    by f (step.Goes spot) led h = f spot.last (subst (λ n. take 4 (spelled (behind spot.last n) text) ≡ stream_header) led h)
     by f (step.Gives byte spot) led h = let no : true ≡ false = sym (led (first_is byte (spelled spot text) h)) ∙ e in cc
     by f step.Ends led h = let no : [] ≡ stream_header = h in cc
 
 pub not_led : (text : List ℕ) (from : Reading) → leads from.spot.next ≡ false → SpellsHeader text from → ⊥
-not_led text from e = not_spelled from.spot.next from.spot.escaped (drop from.at text) e
+not_led text from e = not_spelled from.spot.next from.spot.last (drop from.at text) e
 
 -- ---- the ways in which a text is read from a place on
 
@@ -117,19 +129,19 @@ third_found text at value found is spells =
     subst (λ v. StartsBy (ReadsGroup at v) text (Some (reading_before (at + 1) (digit.Fourth (value % 4))))) is (inr (inr refl), spells)
 
 -- of both
-pub no_start : (text : List ℕ) (at : ℕ) → StartsBy (ReadsPair at (hexadecimal_value (get_or text at 0))) text None
-    → StartsBy (ReadsGroup at (base64_value (get_or text at 0))) text None → StartsAt text at None
+pub no_start : (text : List ℕ) (at : ℕ) → StartsBy (ReadsPair at (hex_digit_value (get_or text at 0))) text None
+    → StartsBy (ReadsGroup at (either_value (get_or text at 0))) text None → StartsAt text at None
 no_start text at pair group = λ has. by has.0 has.1.0 has.1.1
   where
     by : (reading : Reading) → ReadsFrom text at reading → SpellsHeader text reading → ⊥
     by reading (inl reads) spells = pair reading reads spells
     by reading (inr reads) spells = group reading reads spells
 
-pub pair_starts : (text : List ℕ) (at : ℕ) (reading : Reading) → StartsBy (ReadsPair at (hexadecimal_value (get_or text at 0))) text (Some reading)
+pub pair_starts : (text : List ℕ) (at : ℕ) (reading : Reading) → StartsBy (ReadsPair at (hex_digit_value (get_or text at 0))) text (Some reading)
     → StartsAt text at (Some reading)
 pair_starts text at reading h = (inl h.0, h.1)
 
-pub group_starts : (text : List ℕ) (at : ℕ) (reading : Reading) → StartsBy (ReadsGroup at (base64_value (get_or text at 0))) text (Some reading)
+pub group_starts : (text : List ℕ) (at : ℕ) (reading : Reading) → StartsBy (ReadsGroup at (either_value (get_or text at 0))) text (Some reading)
     → StartsAt text at (Some reading)
 group_starts text at reading h = (inr h.0, h.1)
 
@@ -163,3 +175,17 @@ found_here text from at reading inside starts yet = (record { low = yet.low; hig
 
 pub none_at_all : (text : List ℕ) (from at : ℕ) → length text ≤ at → NoneYet text from at → IsFirstStart text from None
 none_at_all text from at over yet = λ k low high. yet.none k low (omega (arith, high, over))
+
+pub none_passed : (text : List ℕ) (from at here : ℕ) → NoneYet text from at → at ≤ here → here < length text → Nowhere (HasHeaderTextAt text) at here → NoneYet text from here
+none_passed text from at here yet low inside none = record {
+  low = omega (arith, yet.low, low);
+  high = omega arith;
+  none = λ k k_low k_high is. elim (cases_lt k at) [
+    | inl l ↦ yet.none k k_low l is
+    | inr not ↦ none k not k_high is
+  ];
+}
+
+pub found_behind : (text : List ℕ) (from at here : ℕ) (reading : Reading) → at ≤ here → here < length text → Nowhere (HasHeaderTextAt text) at here → StartsAt text here (Some reading)
+    → NoneYet text from at → IsFirstStart text from (Some (record { from = here; reading = reading }))
+found_behind text from at here reading low inside none starts yet = found_here text from here reading inside starts (none_passed text from at here yet low inside none)

@@ -1,9 +1,9 @@
 pub mod Answers
 pub mod Budgets
-pub mod Digits
 pub mod Finds
 pub mod Lines
 pub mod Spelled
 pub mod Spots
 pub mod Starts
 pub mod Texts
+pub mod Marks

@@ -5,6 +5,7 @@ use Rattle.jser_find.specs.declared.spot.Step.{Step}
 use Rattle.jser_find.specs.declared.spot.Step.TheVariants as step
 use Rattle.jser_find.specs.declared.spelled.Given.{Given}
 use Rattle.jser_find.specs.declared.spelled.Reading.{Reading}
+use Rattle.jser_find.specs.declared.group.Group.{Group}
 use Rattle.jser_find.specs.Spots.{Fits, step_of}
 
 -- what a character gives, and then what comes behind it
@@ -53,3 +54,11 @@ pub record Gives (text : List ℕ) (from : Reading) (byte : ℕ) (then : Reading
 abbrev pub GivesNext : List ℕ → Reading → Option Given → Type 0
 GivesNext text from None = bytes_from text from ≡ []
 GivesNext text from (Some given) = Gives text from given.byte given.then
+
+-- The next three bytes are given.
+pub record GivesGroup (text : List ℕ) (from : Reading) (group : Group) : Type 0 where
+  pub second_from : Reading
+  pub third_from : Reading
+  pub first : Gives text from group.first second_from
+  pub second : Gives text second_from group.second third_from
+  pub third : Gives text third_from group.third group.then

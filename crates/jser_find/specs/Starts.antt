@@ -6,7 +6,8 @@ use Rattle.jser_find.specs.declared.spot.Digit.{Digit}
 use Rattle.jser_find.specs.declared.spot.Digit.TheVariants as digit
 use Rattle.jser_find.specs.declared.spelled.Reading.{Reading}
 use Rattle.jser_find.specs.declared.start.Start.{Start}
-use Rattle.jser_find.specs.Digits.{base64_value, hexadecimal_value}
+use Rattle.hex.specs.Hex.{hex_digit_value}
+use Rattle.jser_digits.specs.Digits.{either_value}
 use Rattle.jser_find.specs.Spelled.{bytes_from}
 use Rattle.jser_find.specs.Spots.{before}
 
@@ -39,7 +40,7 @@ ReadsGroup at (Some value) reading =
     ⊎ ((reading ≡ reading_before (at + 1) (digit.Third (value % 16))) ⊎ (reading ≡ reading_before (at + 1) (digit.Fourth (value % 4))))
 
 abbrev pub ReadsFrom : List ℕ → (at : ℕ) → Reading → Type 0
-ReadsFrom text at reading = ReadsPair at (hexadecimal_value (get_or text at 0)) reading ⊎ ReadsGroup at (base64_value (get_or text at 0)) reading
+ReadsFrom text at reading = ReadsPair at (hex_digit_value (get_or text at 0)) reading ⊎ ReadsGroup at (either_value (get_or text at 0)) reading
 
 -- read in one of these ways the text spells a header
 abbrev pub IsHeaderAt : List ℕ → (at : ℕ) → Reading → Type 0

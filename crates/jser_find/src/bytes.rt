@@ -2,11 +2,12 @@
 ghost use Rattle.std.specs.Prelude.{◌≡◌, ◌≤◌, ◌↔◌, IfOk, IsTrue, length, take};
 ghost use Rattle.jser_find.specs.Spelled.{IsIn, bytes_from, place_until};
 
+use crate::group::next_group;
 use crate::spelled::{Reading, next_byte};
 use std::alloc::{AllocError, Global};
 
 /// The first bytes that a text spells, at most so many.
-#[tactic(auto, using(crate::proofs::FrontLemmas::front_more, crate::proofs::FrontLemmas::front_none, crate::proofs::FrontLemmas::front_full, crate::proofs::FrontLemmas::front_over))]
+#[tactic(auto, using(crate::proofs::FrontLemmas::front_more, crate::proofs::FrontLemmas::front_group, crate::proofs::FrontLemmas::front_none, crate::proofs::FrontLemmas::front_full, crate::proofs::FrontLemmas::front_over))]
 pub(crate) fn front_of(
     alloc: Global,
     text: &[u8],
@@ -20,6 +21,14 @@ pub(crate) fn front_of(
     let mut now = from;
     let mut left = count;
     'bytes: while left > 0 {
+        if left >= 3
+            && let Some(group) = next_group(text, now)
+        {
+            bytes.extend_from_slice(&[group.first, group.second, group.third])?;
+            now = group.then;
+            left -= 3;
+            continue;
+        }
         match next_byte(text, now) {
             Some(given) => {
                 bytes.push(given.byte)?;
@@ -56,7 +65,7 @@ pub(crate) fn begins_with(text: &[u8], from: Reading, needle: &[u8]) -> bool
 }
 
 /// The place behind the digit that completes the last of the first `count` bytes that a text spells.
-#[tactic(auto, using(crate::proofs::FrontLemmas::places_none, crate::proofs::FrontLemmas::places_more, crate::proofs::FrontLemmas::places_all, crate::proofs::FrontLemmas::places_over))]
+#[tactic(auto, using(crate::proofs::FrontLemmas::places_none, crate::proofs::FrontLemmas::places_more, crate::proofs::FrontLemmas::places_group, crate::proofs::FrontLemmas::places_all, crate::proofs::FrontLemmas::places_over))]
 pub(crate) fn place_behind(text: &[u8], from: Reading, count: usize) -> usize
     requires inside { IsIn text.now from }
     requires enough { count ≤ length (bytes_from text.now from) }
@@ -66,6 +75,13 @@ pub(crate) fn place_behind(text: &[u8], from: Reading, count: usize) -> usize
     let mut now = from;
     let mut left = count;
     'bytes: while left > 0 {
+        if left >= 3
+            && let Some(group) = next_group(text, now)
+        {
+            now = group.then;
+            left -= 3;
+            continue;
+        }
         match next_byte(text, now) {
             Some(given) => {
                 now = given.then;

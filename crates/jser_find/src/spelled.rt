@@ -1,6 +1,7 @@
 //! The bytes that a text spells, one after another.
 ghost use Rattle.jser_find.specs.Spelled.{GivesNext, IsIn};
 
+use crate::group::next_pair;
 use crate::spot::{Spot, Step, step_of};
 
 /// How far a text was read.
@@ -27,6 +28,9 @@ pub(crate) fn next_byte(text: &[u8], from: Reading) -> Option<Given>
     requires { IsIn text.now from }
     ensures { GivesNext text.now from result }
 {
+    if let Some(given) = next_pair(text, from) {
+        return Some(given);
+    }
     let mut at = from.at;
     let mut spot = from.spot;
     'characters: while at < text.len() {

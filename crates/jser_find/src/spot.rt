@@ -1,8 +1,8 @@
 //! Where a text is between its digits, and what a character does there.
 ghost use Rattle.std.specs.Prelude.{◌≡◌, ◌<◌, IfSome};
-ghost use Rattle.jser_find.specs.Spots.{Fits, FitsStep, before, digit_step, digit_value, escaped_step, radix, step_of, value_step};
+ghost use Rattle.jser_find.specs.Spots.{Fits, FitsStep, before, behind, digit_step, digit_value, escaped_step, line_step, open_step, radix, step_of, value_step};
 
-use crate::digit::{base64_value, hexadecimal_value};
+use jser_digits::{Alphabet, base64_digit, hex_digit};
 
 /// Which digit of a pair or of a group of four comes next, and the bits that the digits before it leave.
 #[derive(Clone, Copy, PartialEq, Eq, Debug)]
@@ -21,13 +21,24 @@ pub enum Digit {
     Fourth(u8),
 }
 
+/// What was read last.
+#[derive(Clone, Copy, PartialEq, Eq, Debug)]
+pub enum Last {
+    /// A digit.
+    Digit,
+    /// A line end, or a blank or a tab behind one.
+    LineEnd,
+    /// A `\`.
+    Backslash,
+}
+
 /// Where a text is.
 #[derive(Clone, Copy, PartialEq, Eq, Debug)]
 pub struct Spot {
     /// The next digit.
     pub next: Digit,
-    /// Whether a `\` stands before.
-    pub escaped: bool,
+    /// What stands before.
+    pub last: Last,
 }
 
 /// What a character does.
@@ -41,23 +52,46 @@ pub enum Step {
     Ends,
 }
 
-/// What a character does: a digit, a line end, or one of the pairs `\n`, `\r`, `\/` of JSON strings and of logs.
+/// What a character does: a digit, a line end, a blank or a tab that begins a line, or one of the pairs `\n`, `\r`, `\/` of JSON
+/// strings and of logs.
 pub(crate) fn step_of(spot: Spot, byte: u8) -> Step
     requires { Fits spot.next }
     ensures is { result ≡ step_of spot byte }
     ensures fits { FitsStep result }
 {
-    if spot.escaped {
-        escaped_step(spot.next, byte)
-    } else if byte == b'\n' || byte == b'\r' {
-        Step::Goes(spot)
+    match spot.last {
+        Last::Digit => open_step(spot.next, byte),
+        Last::LineEnd => line_step(spot.next, byte),
+        Last::Backslash => escaped_step(spot.next, byte),
+    }
+}
+
+/// What a character does behind a digit.
+#[inline(always)]
+fn open_step(next: Digit, byte: u8) -> Step
+    requires { Fits next }
+    ensures is { result ≡ open_step next byte }
+    ensures fits { FitsStep result }
+{
+    if byte == b'\n' || byte == b'\r' {
+        Step::Goes(behind(Last::LineEnd, next))
     } else if byte == b'\\' {
-        Step::Goes(Spot {
-            next: spot.next,
-            escaped: true,
-        })
+        Step::Goes(behind(Last::Backslash, next))
     } else {
-        digit_step(spot.next, byte)
+        digit_step(next, byte)
+    }
+}
+
+/// What a character does at the beginning of a line.
+fn line_step(next: Digit, byte: u8) -> Step
+    requires { Fits next }
+    ensures is { result ≡ line_step next byte }
+    ensures fits { FitsStep result }
+{
+    if byte == b' ' || byte == b'\t' {
+        Step::Goes(behind(Last::LineEnd, next))
+    } else {
+        open_step(next, byte)
     }
 }
 
@@ -68,10 +102,7 @@ fn escaped_step(next: Digit, byte: u8) -> Step
     ensures fits { FitsStep result }
 {
     if byte == b'n' || byte == b'r' {
-        Step::Goes(Spot {
-            next,
-            escaped: false,
-        })
+        Step::Goes(behind(Last::LineEnd, next))
     } else if byte == b'/' {
         digit_step(next, byte)
     } else {
@@ -97,8 +128,11 @@ fn digit_value(next: Digit, byte: u8) -> Option<u8>
     ensures small { IfSome result (λ value. value < radix next) }
 {
     match next {
-        Digit::High | Digit::Low(_) => hexadecimal_value(byte),
-        Digit::First | Digit::Second(_) | Digit::Third(_) | Digit::Fourth(_) => base64_value(byte),
+        Digit::High | Digit::Low(_) => hex_digit(byte),
+        Digit::First | Digit::Second(_) | Digit::Third(_) | Digit::Fourth(_) => base64_digit(
+            Alphabet::Either,
+            byte,
+        ),
     }
 }
 
@@ -121,12 +155,16 @@ fn value_step(next: Digit, value: u8) -> Step
     }
 }
 
-/// Before this digit.
+/// Before this digit, behind another.
 fn before(next: Digit) -> Spot
     ensures { result ≡ before next }
 {
-    Spot {
-        next,
-        escaped: false,
-    }
+    behind(Last::Digit, next)
+}
+
+/// Before this digit, behind something.
+fn behind(last: Last, next: Digit) -> Spot
+    ensures { result ≡ behind last next }
+{
+    Spot { next, last }
 }

@@ -1,7 +1,6 @@
 -- Four digits of base64 are three bytes.
 use Rattle.std.proofs.Common.{◌≡◌, ℕ, ◌+◌, ◌*◌, ◌==◌, ◌||◌, if◌then◌else◌, Bool, true, false, Some, refl, sym, ap, ◌∙◌, arith}
 use Rattle.std.specs.Prelude.{◌/◌, ◌%◌, is_some}
-use Rattle.std.proofs.lemmas.Bool.{eqb-true}
 use Rattle.jser_inputs.specs.Groups.{Group}
 use Rattle.jser_inputs.specs.declared.spot.Spot.{Spot}
 use Rattle.jser_inputs.specs.declared.spot.Move.TheVariants as move
@@ -11,21 +10,11 @@ use Rattle.jser_inputs.specs.declared.place.Place.{Place}
 use Rattle.jser_inputs.specs.declared.place.Place.TheVariants as place
 use Rattle.jser_inputs.specs.Spaces.{is_space}
 use Rattle.jser_digits.specs.Digits.{value_in}
+use Rattle.jser_digits.proofs.DigitLemmas.{neither, other}
 use Rattle.jser_inputs.specs.Places.{move_of, move_over_space, moved, step_by_place, pads, first_read, second_read, third_read, fourth_read}
 use Rattle.jser_inputs.specs.Groups.{IsGroup}
 
 -- ---- a digit is no white space, and no `=`
-
-other_by : (test : ℕ → Bool) (c k : ℕ) (t : Bool) → (c == k) ≡ t → test c ≡ true → test k ≡ false → t ≡ false
-other_by test c k true is e f = absurd (cc (sym e ∙ ap test (eqb-true c k is) ∙ f))
-other_by test c k false is e f = refl
-
-pub other : (test : ℕ → Bool) (c k : ℕ) → test c ≡ true → test k ≡ false → (c == k) ≡ false
-other test c k e f = other_by test c k (c == k) refl e f
-
-pub neither : (a b : Bool) → a ≡ false → b ≡ false → (a || b) ≡ false
-neither true b e f = absurd (cc e)
-neither false b e f = f
 
 abbrev is_digit : Alphabet → ℕ → Bool
 is_digit letters c = is_some (value_in letters c)

@@ -12,7 +12,8 @@ use Rattle.jser_inputs.specs.Places.{high_read, low_read, move_of, moved}
 use Rattle.jser_inputs.specs.Groups.{Turned, TurnsOn}
 use Rattle.std.proofs.lemmas.List.{length-take-le}
 use Rattle.jser_inputs.specs.Spelled.{Reads}
-use Rattle.jser_inputs.proofs.DigitLemmas.{moves, neither, other}
+use Rattle.jser_digits.proofs.DigitLemmas.{neither, other}
+use Rattle.jser_inputs.proofs.DigitLemmas.{moves}
 use Rattle.jser_inputs.proofs.GroupLemmas.{turns_none, turns_pair}
 
 -- where a run is that began there and has given so many bytes more
