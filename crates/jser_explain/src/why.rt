@@ -15,7 +15,7 @@ use jser_grammar::wire::TC_CLASSDESC;
 use jser_index::{text_units, walk_along};
 use jser_prim::{Outbox, Sink};
 use jser_printer::{Name, Open, write};
-use jser_reader::{OpenGate, Place, Reader, Reason, Stop};
+use jser_reader::Reason;
 use jser_scan::{Found, Rules};
 use std::alloc::{AllocError, Global};
 
@@ -88,7 +88,7 @@ fn write_why<W: Sink>(
     let rest = Rest {
         class: class.as_ref().map(Vec::as_slice),
         piece,
-        opened: without_raw_element(alloc, bytes, spot.from, &opened)?,
+        opened: opened.as_slice(),
         writer: writer_in(&opened),
         hint: hint_of(found, bytes),
     };
@@ -199,31 +199,6 @@ fn is_behind_tag(bytes: &[u8], spot: Spot) -> bool {
             [TC_CLASSDESC]
         ),
         None => false,
-    }
-}
-
-/// What is open at a place, but for the element of an array of primitives: all its elements are one token.
-fn without_raw_element<'o, 'w>(
-    alloc: Global,
-    bytes: &[u8],
-    at: u64,
-    opened: &'o [Open<'w>],
-) -> Result<&'o [Open<'w>], AllocError> {
-    match opened {
-        [others @ .., Open::Element { .. }] => match place_at(alloc, bytes, at)? {
-            Place::Raw => Ok(others),
-            _ => Ok(opened),
-        },
-        _ => Ok(opened),
-    }
-}
-
-/// What the token is for that begins at a place, or has it inside.
-fn place_at(alloc: Global, bytes: &[u8], at: u64) -> Result<Place, AllocError> {
-    let mut reader = Reader::new(alloc, OpenGate);
-    match reader.skip(bytes_at(bytes, Spot { from: 0, to: at })) {
-        Err(Stop::OutOfMemory) => Err(AllocError),
-        _ => Ok(reader.place()),
     }
 }
 

@@ -111,6 +111,8 @@ fn add_frame<'w>(
         Frame::Notes { .. } => opened.push(Open::Annotation {
             class: writer_of_notes(table, outer),
         })?,
+        // All elements of an array of primitives are one token.
+        Frame::Elements(at) if at.elements.is_some() => {}
         Frame::Elements(at) => opened.push(Open::Element {
             index: at.index.saturating_sub(u32::from(has_begun)),
         })?,

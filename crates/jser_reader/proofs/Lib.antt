@@ -71,7 +71,6 @@ pub mod ManyConstants
 pub mod ManyNotes
 pub mod ManyArrays
 pub mod ManyPasses
-pub mod GoalPlaces
 pub mod TextTokens
 pub mod VisitLemmas
 pub mod FieldShownLemmas

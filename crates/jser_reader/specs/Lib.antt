@@ -39,8 +39,6 @@ pub mod WholesTold
 pub mod FieldsTold
 pub mod TokenLaws
 pub mod Gates
-pub mod Places
-pub mod MachinePlaces
 pub mod Visits
 pub mod Feeds
 pub mod Showing

@@ -24,7 +24,6 @@ mod item;
 pub mod laws;
 mod machine;
 mod phase;
-mod place;
 mod reader;
 mod refusal;
 mod stack;
@@ -34,7 +33,6 @@ mod visit;
 
 pub use gate::{Answer, Gate, Limits, OpenGate};
 pub use item::{Field, Item, Step, Totals, Whole};
-pub use place::Place;
 pub use reader::Reader;
 pub use refusal::{Reason, Refusal, Stop};
 pub use visit::{FeedFault, Visit, Whereabouts};

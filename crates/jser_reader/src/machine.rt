@@ -28,7 +28,6 @@ mod owners;
 mod parts;
 pub(crate) mod pass;
 pub(crate) mod passed;
-mod places;
 mod rules;
 mod states;
 mod superclasses;

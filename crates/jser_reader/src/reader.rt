@@ -6,7 +6,6 @@ ghost use Rattle.jser_reader.specs.Bounds.{FramesAreBounded, AreAssigned, Memory
 ghost use Rattle.jser_reader.specs.ItemsMade.{MakesStep};
 ghost use Rattle.jser_reader.specs.ItemsTold.{StandsIn, TellsItems, TellsTokens};
 ghost use Rattle.jser_reader.specs.States.{IsWithin};
-ghost use Rattle.jser_reader.specs.Places.{PlaceTold};
 
 mod feed;
 mod lent;
@@ -19,7 +18,6 @@ use crate::machine::items::{Kept, item_of};
 use crate::machine::passed::Passed;
 use crate::machine::take::taken::Taken;
 use crate::phase::Phase;
-use crate::place::Place;
 use crate::refusal::Stop;
 use crate::tally::Tally;
 use jser_table::Table;
@@ -242,14 +240,6 @@ impl<G: Gate> Reader<G> {
         ensures assigned { AreAssigned (G.told self.now.gate) result self.now.machine self.now.tally }
     {
         self.machine.handles()
-    }
-
-    /// What the token that is open or comes next is for.
-    #[tactic(auto, using(crate::proofs::GoalPlaces::place_told))]
-    pub fn place(&self) -> Place
-        ensures { PlaceTold result self.now.machine self.now.tally }
-    {
-        self.machine.open_place()
     }
 
     /// The handles of the epoch that are assigned before the token that is open or comes next, and their classes.

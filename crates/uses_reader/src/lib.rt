@@ -4,8 +4,8 @@
 #![tactic(auto)]
 
 pub mod asking;
+pub mod classes;
 pub mod cuts;
-pub mod places;
 pub mod showing;
 pub mod standing;
 pub mod taking;

@@ -32,12 +32,12 @@ macro_rules! same {
 
 mod anew;
 mod asserted;
+mod classes;
 mod example;
 mod gates;
 mod memory;
 mod nests;
 mod pieces;
-mod places;
 mod rows;
 
 /// The counts of a stream.
