@@ -19,7 +19,7 @@ pub enum Stream {
     Open(Check<SharedFilter>),
     /// It cannot go on: each call answers this.
     Over(Answer),
-    /// The same, for a class name that the filter did not let pass, which the check still has.
+    /// It cannot go on, for a class name that the filter did not let pass: each call answers this, and the check has the name.
     Refused(Answer, Check<SharedFilter>),
 }
 

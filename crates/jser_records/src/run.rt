@@ -47,7 +47,7 @@ pub(crate) enum End {
     ReadFailed,
     /// By a write that failed.
     WriteFailed,
-    /// By a want of memory.
+    /// Where memory ran out.
     NoMemory,
 }
 
