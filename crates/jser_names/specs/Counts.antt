@@ -1,21 +1,16 @@
 -- Names that are counted, each under a number.
-use denote.Bor.{Bor}
 use Rattle.std.specs.Global.{Global}
-use Rattle.std.specs.Prelude.{ℕ, suc, ◌≡◌, ◌⊎◌, if◌then◌else◌, List, [], ◌∷◌, slice_get, Option, Some, None, option_map, Vec}
-use Rattle.std.specs.Map.{lookup}
-use Rattle.std.specs.Ordering.{is_eq, nat_cmp}
-use Rattle.std.specs.Cmp.Lexicographic.{slice_cmp}
+use Rattle.std.specs.Prelude.{ℕ, suc, ◌≡◌, ◌⊎◌, if◌then◌else◌, List, [], ◌∷◌, map, Option, Some, None, option_map, Vec}
+use Rattle.std.specs.List.{IsDistinct}
 use Rattle.std.specs.Str.{bytes_eq}
 use Rattle.jser_prim.specs.ModifiedUtf8.{IsUnits, modified_utf8}
 use Rattle.jser_shown.specs.Counting.{NameTally, name_tally}
 use Rattle.jser_names.specs.declared.counts.NameCount.{NameCount}
-
-abbrev pub tally_of : NameCount → NameTally
-tally_of count = name_tally count.name.items count.times
+use Rattle.jser_names.specs.declared.counts.Seen.{Seen}
 
 -- the count of a name, as it is lent, or none
-abbrev pub IsCount : Option NameTally → Option (Bor NameCount) → Type 0
-IsCount (Some tally) (Some count) = tally_of count.now ≡ tally
+abbrev pub IsCount : Option NameTally → Option NameCount → Type 0
+IsCount (Some tally) (Some count) = name_tally count.name.now count.times ≡ tally
 IsCount None None = Unit {0}
 IsCount _ _ = ⊥
 
@@ -31,20 +26,18 @@ names_counted (tally ∷ tallies) = tally.name ∷ names_counted tallies
 
 -- ---- as they are kept
 
--- what a map has for a name
-abbrev pub number_kept : (name : List ℕ) → List (Vec ℕ Global × ℕ) → Option ℕ
-number_kept name entries = lookup (λ key. is_eq (slice_cmp nat_cmp name key.items)) entries
-
--- a map has the number of each name that was counted, and of no other; and each tally is the first of its name
-pub record AreNumbered (tallies : List NameTally) (entries : List (Vec ℕ Global × ℕ)) : Type 0 where
-  pub kept : (name : List ℕ) → number_kept name entries ≡ number_in name tallies
-  pub first : (number : ℕ) (tally : NameTally) → slice_get tallies number ≡ Some tally → number_in tally.name tallies ≡ Some number
+abbrev pub tally_of : Vec ℕ Global × Seen → NameTally
+tally_of entry = name_tally entry.0.items entry.1.times
 
 -- the bytes are the name's modified UTF-8, where there are any
 abbrev pub IsSpelledBy : (name bytes : List ℕ) → Type 0
 IsSpelledBy name bytes = (bytes ≡ []) ⊎ (IsUnits name × (bytes ≡ modified_utf8 name))
 
--- so with each of these counts
-abbrev pub AreSpelled : List NameCount → Type 0
+-- so with each of these names
+abbrev pub AreSpelled : List (Vec ℕ Global × Seen) → Type 0
 AreSpelled [] = Unit {0}
-AreSpelled (count ∷ counts) = IsSpelledBy count.name.items count.spelled.items × AreSpelled counts
+AreSpelled (entry ∷ entries) = IsSpelledBy entry.0.items entry.1.spelled.items × AreSpelled entries
+
+-- no two of the names are the same
+abbrev pub AreApart : List (Vec ℕ Global × Seen) → Type 0
+AreApart entries = IsDistinct (λ a b. bytes_eq a.items b.items) (map (λ entry. entry.0) entries)

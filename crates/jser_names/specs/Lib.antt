@@ -1,6 +1,7 @@
 pub mod Collecting
 pub mod Finds
 pub mod Found
+pub mod Hashing
 pub mod Counts
 pub mod Named
 pub mod Sources

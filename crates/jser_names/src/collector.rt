@@ -4,6 +4,7 @@ ghost use Rattle.jser_reader.specs.Visits.{TakesAll, name_items, type_items};
 ghost use Rattle.jser_names.specs.Standing.{Adds, Closes, ClosesName, ClosesThen, Takes, begun};
 
 use crate::counts::NameCounts;
+use crate::keyed::Keyed;
 use jser_grammar::wire::{TC_CLASSDESC, TC_REFERENCE};
 use jser_reader::{Field, Item, Visit, Whereabouts, Whole};
 use std::alloc::{AllocError, Global};
@@ -39,12 +40,12 @@ impl Model for Collector {
 }
 
 impl Collector {
-    /// No names. Takes no memory.
-    pub(crate) fn new(alloc: Global) -> Collector
+    /// No names, which are counted under this key. Takes no memory.
+    pub(crate) fn new(alloc: Global, keyed: Keyed) -> Collector
         ensures { result ≡ record { names = []; left = 0; is_open = false; text = []; longest = 0 } }
     {
         Collector {
-            names: NameCounts::new(alloc),
+            names: NameCounts::new(alloc, keyed),
             left: 0,
             is_open: false,
             text: Vec::new(alloc),

@@ -4,36 +4,41 @@ ghost use Rattle.jser_prim.specs.ModifiedUtf8.{IsUnits, modified_utf8};
 ghost use Rattle.jser_shown.specs.Counting.{name_tally, tally_one};
 ghost use Rattle.jser_names.specs.Counts.{IsCount, IsSpelledBy, number_in};
 
+use crate::keyed::Keyed;
+use indexmap::IndexMap;
 use jser_prim::{read_u32, read_units};
 use std::alloc::{AllocError, Global};
-use std::collections::BTreeMap;
 use std::marker::Model;
 
 /// How many places there are for names that were seen last. Each has room for two.
 const PLACES: usize = 512;
 
 /// A name, and how often it was seen.
-#[derive(Drop)]
-pub struct NameCount {
+#[derive(Clone, Copy)]
+pub struct NameCount<'a> {
     /// Its UTF-16 units.
-    pub name: Vec<u16>,
+    pub name: &'a [u16],
     /// How often it was seen.
     pub times: u64,
+}
+
+/// What is kept beside a name.
+#[derive(Drop)]
+struct Seen {
+    /// How often it was seen.
+    times: u64,
     /// Its modified UTF-8, where it was read from that; else none.
     spelled: Vec<u8>,
 }
 
 /// The different names that were seen, in the order in which they were first seen, each with how often it was.
 ///
-/// A name is looked up by its place in the order of all of them, so that nobody can choose names that are slow to tell apart.
-/// Each different name is held twice, once in each order, and its text in the stream. One that was seen lately is found at
-/// once, in a table of 4 KiB.
+/// Names are told apart by their hashes under a key: whoever knows it can choose names that are slow to tell apart. One that was
+/// seen lately is found at once, in a table of 4 KiB.
 #[derive(Drop)]
 pub struct NameCounts {
     alloc: Global,
-    counts: Vec<NameCount>,
-    /// The number of each name.
-    numbers: BTreeMap<Vec<u16>, usize>,
+    names: IndexMap<Vec<u16>, Seen, Keyed>,
     /// Numbers of names that were seen last, two at each place that a name tells: the later one, and the other one `PLACES`
     /// behind it.
     recent: [u32; 1024],
@@ -42,25 +47,23 @@ pub struct NameCounts {
 impl Model for NameCounts {
     ghost use Rattle.std.specs.Prelude.{List, map};
     ghost use Rattle.jser_shown.specs.Counting.{NameTally};
-    ghost use Rattle.jser_names.specs.Counts.{AreNumbered, AreSpelled, tally_of};
+    ghost use Rattle.jser_names.specs.Counts.{AreApart, AreSpelled, tally_of};
 
     ghost Value = { List NameTally };
 
-    ghost view = { λ a. map tally_of a.counts.items };
+    ghost view = { λ a. map tally_of a.names.entries };
 
-    ghost invariant = { λ a. AreNumbered (map tally_of a.counts.items) a.numbers.entries × AreSpelled a.counts.items };
+    ghost invariant = { λ a. AreApart a.names.entries × AreSpelled a.names.entries };
 }
 
 impl NameCounts {
-    /// No names. Takes no memory.
-    #[tactic(auto, using(crate::proofs::CountLemmas::none_numbered))]
-    pub fn new(alloc: Global) -> NameCounts
+    /// No names, which are hashed under this key; it changes nothing else. Takes no memory.
+    pub fn new(alloc: Global, keyed: Keyed) -> NameCounts
         ensures { result ≡ [] }
     {
         NameCounts {
             alloc,
-            counts: Vec::new(alloc),
-            numbers: BTreeMap::new(alloc),
+            names: IndexMap::with_hasher(alloc, keyed),
             recent: [0; 1024],
         }
     }
@@ -108,22 +111,25 @@ impl NameCounts {
     pub fn len(&self) -> usize
         ensures { result ≡ length self.now }
     {
-        self.counts.len()
+        self.names.len()
     }
 
     /// The name with this number, counted from 0 in the order in which they were first seen, and how often it was seen.
-    #[tactic(auto, using(crate::proofs::CountLemmas::count_here, crate::proofs::CountLemmas::no_count_here))]
-    pub fn get(&self, number: usize) -> Option<&NameCount>
+    pub fn get(&self, number: usize) -> Option<NameCount<'_>>
         ensures { IsCount (slice_get self.now number) result }
     {
-        self.counts.get(number)
+        let (name, seen) = self.names.get_index(number)?;
+        Some(NameCount {
+            name: name.as_slice(),
+            times: seen.times,
+        })
     }
 
     /// Whether this name was seen.
     pub fn has(&self, name: &[u16]) -> bool
         ensures { result ≡ is_some (number_in name.now self.now) }
     {
-        self.numbers.get(name).is_some()
+        self.look_up(name).is_some()
     }
 
     /// The number of the name that these bytes spell, where it was seen lately.
@@ -155,14 +161,16 @@ impl NameCounts {
         if self.is_numbered(name, number) {
             return Some(number);
         }
-        match self.numbers.get(name) {
-            Some(number) => {
-                let number = *number;
-                self.remember(number, place);
-                Some(number)
-            }
-            None => None,
-        }
+        let number = self.look_up(name)?;
+        self.remember(number, place);
+        Some(number)
+    }
+
+    /// The number of this name, if it was seen.
+    fn look_up(&self, name: &[u16]) -> Option<usize>
+        ensures { result ≡ number_in name.now self.now }
+    {
+        self.names.get_index_of(name)
     }
 
     /// Keeps a number at this place, with the later one of those that are there. One that is too large is lost, and then the
@@ -179,8 +187,8 @@ impl NameCounts {
     fn is_numbered(&self, name: &[u16], number: usize) -> bool
         ensures { result ≡ true → number_in name.now self.now ≡ Some number }
     {
-        match self.counts.get(number) {
-            Some(count) => count.name.as_slice() == name,
+        match self.names.get_index(number) {
+            Some((other, _)) => other.as_slice() == name,
             None => false,
         }
     }
@@ -190,8 +198,8 @@ impl NameCounts {
         ensures inside { result ≡ true → number < length self.now }
         ensures named { result ≡ true → (name : List ℕ) → IsUnits name → modified_utf8 name ≡ text.now → number_in name self.now ≡ Some number }
     {
-        match self.counts.get(number) {
-            Some(count) => !text.is_empty() && count.spelled.as_slice() == text,
+        match self.names.get_index(number) {
+            Some((_, seen)) => !text.is_empty() && seen.spelled.as_slice() == text,
             None => false,
         }
     }
@@ -202,11 +210,11 @@ impl NameCounts {
         ensures counted { OnOk result ((name : List ℕ) → number_in name self.old ≡ Some number → self.new ≡ tally_one name self.old) }
         ensures kept { OnErr result (self.new ≡ self.old) }
     {
-        let count = &mut self.counts[number];
-        let Some(times) = count.times.checked_add(1) else {
+        let seen = &mut self.names[number];
+        let Some(times) = seen.times.checked_add(1) else {
             return Err(AllocError);
         };
-        count.times = times;
+        seen.times = times;
         Ok(())
     }
 
@@ -217,18 +225,14 @@ impl NameCounts {
         ensures added { OnOk result (self.new ≡ self.old ++ name_tally name.now 1 ∷ []) }
         ensures kept { OnErr result (self.new ≡ self.old) }
     {
-        self.counts.reserve(1)?;
-        let count = NameCount {
-            name: name.to_vec(self.alloc)?,
+        let seen = Seen {
             times: 1,
             spelled: text.to_vec(self.alloc)?,
         };
-        let key = name.to_vec(self.alloc)?;
-        if self.numbers.insert(key, self.counts.len()).is_err() {
-            return Err(AllocError);
+        match self.names.insert(name.to_vec(self.alloc)?, seen) {
+            Ok(_) => Ok(()),
+            Err(_) => Err(AllocError),
         }
-        self.counts.push_reserved(count);
-        Ok(())
     }
 }
 

@@ -6,6 +6,7 @@ ghost use Rattle.jser_names.specs.Standing.{Stands};
 
 use crate::collector::Collector;
 use crate::counts::NameCounts;
+use crate::keyed::Keyed;
 use crate::laws::{lengths_are_measured, names_are_collected};
 use crate::taker::Taker;
 use jser_reader::{FeedFault, OpenGate, Reader, Stop, Totals};
@@ -24,17 +25,17 @@ pub struct Found {
 }
 
 /// Goes once along bytes that are one stream within the greatest limits, and finds its checked names, its counts and the length
-/// of its longest array. No class names are refused.
+/// of its longest array. No class names are refused. They are counted under this key, which changes no answer.
 ///
 /// What it allocates is the different names, what a reader does, and room for the bytes of one name.
 ///
 /// # Errors
 ///
 /// `Refused` where the bytes are no such stream, with the first fault. `OutOfMemory` where memory ran out. Never `Spent`.
-pub fn names_in(alloc: Global, bytes: &[u8]) -> Result<Found, Stop>
+pub fn names_in(alloc: Global, keyed: Keyed, bytes: &[u8]) -> Result<Found, Stop>
     ensures { Finds bytes.now result }
 {
-    let mut naming = Naming::new(alloc);
+    let mut naming = Naming::new(alloc, keyed);
     match naming.take(bytes) {
         Ok(()) => naming.end(),
         Err(stop) => Err(stop),
@@ -51,12 +52,12 @@ pub(crate) struct Naming {
 impl Naming {
     /// No names of a stream of which nothing was taken. Takes no memory.
     #[tactic(auto, using(crate::proofs::FoundLemmas::nothing_taken))]
-    pub(crate) fn new(alloc: Global) -> Naming
+    pub(crate) fn new(alloc: Global, keyed: Keyed) -> Naming
         ensures { Stands [] result.reader.machine result.reader.tally result.names }
     {
         Naming {
             reader: Reader::new(alloc, OpenGate),
-            names: Collector::new(alloc),
+            names: Collector::new(alloc, keyed),
         }
     }
 }

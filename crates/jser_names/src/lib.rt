@@ -5,6 +5,7 @@
 mod collector;
 mod counts;
 mod found;
+mod keyed;
 pub mod laws;
 mod named;
 mod source;
@@ -13,6 +14,7 @@ mod whole;
 
 pub use counts::{NameCount, NameCounts};
 pub use found::{Found, names_in};
+pub use keyed::Keyed;
 pub use named::{NamedStream, bytes_and_names_of};
 pub use source::{NamesFault, found_of, names_of};
 pub use whole::bytes_of;

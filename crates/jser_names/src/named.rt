@@ -5,6 +5,7 @@ ghost use Rattle.jser_names.specs.Sources.{FailsWith, IfRefused, IsReadOn, IsRef
 
 use crate::counts::NameCounts;
 use crate::found::{Found, Naming};
+use crate::keyed::Keyed;
 use crate::source::{NamesFault, read_all};
 use crate::whole::Keeping;
 use jser_prim::Source;
@@ -19,9 +20,9 @@ pub struct NamedStream {
     pub names: NameCounts,
 }
 
-/// All the bytes of a source with their checked names, if they are a stream within the greatest limits. The source is read to
-/// its end, or until one byte more than a stream may have has come, also where the bytes are refused; then nothing is kept of
-/// them.
+/// All the bytes of a source with their checked names, if they are a stream within the greatest limits. The names are counted
+/// under this key, which changes no answer. The source is read to its end, or until one byte more than a stream may have has
+/// come, also where the bytes are refused; then nothing is kept of them.
 ///
 /// # Errors
 ///
@@ -29,6 +30,7 @@ pub struct NamedStream {
 #[tactic(auto, using(crate::proofs::SourceLemmas::of_named))]
 pub fn bytes_and_names_of<R: Source>(
     alloc: Global,
+    keyed: Keyed,
     source: &mut R,
 ) -> Result<NamedStream, NamesFault>
     ensures accepted { IfOk result (λ named. IfSome (R.to_come source.old) (λ bytes. IsNamed bytes named)) }
@@ -37,7 +39,7 @@ pub fn bytes_and_names_of<R: Source>(
     ensures fault { IfErr result (λ why. FailsWith why (R.has_failed source.old) (R.has_failed source.new)) }
     ensures read { IfErr result (λ why. IsReadOn (R.to_come source.old) (R.to_come source.new) why) }
 {
-    match read_all(alloc, source, Keeping::of(alloc, Naming::new(alloc))) {
+    match read_all(alloc, source, Keeping::of(alloc, Naming::new(alloc, keyed))) {
         Ok((bytes, found)) => {
             let Found { names, .. } = found;
             Ok(NamedStream { bytes, names })

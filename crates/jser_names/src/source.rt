@@ -6,6 +6,7 @@ ghost use Rattle.jser_names.specs.Sources.{Ends, FailsWith, HasNames, IfRefused,
 
 use crate::counts::NameCounts;
 use crate::found::{Found, Naming};
+use crate::keyed::Keyed;
 use crate::taker::Taker;
 use jser_grammar::caps::MOST_BYTES;
 use jser_prim::{Failed, Source};
@@ -33,9 +34,9 @@ pub(crate) struct Halt {
     pub(crate) left: u64,
 }
 
-/// The different checked names of the stream of a source, in the order of the stream, each with how often it stands there. The source is read
-/// to its end, or until one byte more than a stream may have has come, also where the bytes are refused; nothing is kept of
-/// what comes then.
+/// The different checked names of the stream of a source, in the order of the stream, each with how often it stands there. They
+/// are counted under this key, which changes no answer. The source is read to its end, or until one byte more than a stream may
+/// have has come, also where the bytes are refused; nothing is kept of what comes then.
 ///
 /// What it allocates is the different names, what a reader does, and room for the bytes of a read and of one name.
 ///
@@ -43,14 +44,18 @@ pub(crate) struct Halt {
 ///
 /// `NamesFault`, with the reason. A failed read is told whatever came before it, unless memory ran out.
 #[tactic(auto, using(crate::proofs::SourceLemmas::of_found))]
-pub fn names_of<R: Source>(alloc: Global, source: &mut R) -> Result<NameCounts, NamesFault>
+pub fn names_of<R: Source>(
+    alloc: Global,
+    keyed: Keyed,
+    source: &mut R,
+) -> Result<NameCounts, NamesFault>
     ensures accepted { IfOk result (λ names. IfSome (R.to_come source.old) (λ bytes. HasNames bytes names)) }
     ensures refused { IfErr result (λ why. IfSome (R.to_come source.old) (λ bytes. IfRefused (IsRefused bytes) why)) }
     ensures unbroken { OnOk result (R.has_failed source.new ≡ R.has_failed source.old) }
     ensures fault { IfErr result (λ why. FailsWith why (R.has_failed source.old) (R.has_failed source.new)) }
     ensures read { IfErr result (λ why. IsReadOn (R.to_come source.old) (R.to_come source.new) why) }
 {
-    match found_of(alloc, source) {
+    match found_of(alloc, keyed, source) {
         Ok(Found { names, .. }) => Ok(names),
         Err(why) => Err(why),
     }
@@ -62,14 +67,14 @@ pub fn names_of<R: Source>(alloc: Global, source: &mut R) -> Result<NameCounts, 
 /// # Errors
 ///
 /// As `names_of`.
-pub fn found_of<R: Source>(alloc: Global, source: &mut R) -> Result<Found, NamesFault>
+pub fn found_of<R: Source>(alloc: Global, keyed: Keyed, source: &mut R) -> Result<Found, NamesFault>
     ensures accepted { IfOk result (λ found. IfSome (R.to_come source.old) (λ bytes. HasFound bytes found)) }
     ensures refused { IfErr result (λ why. IfSome (R.to_come source.old) (λ bytes. IfRefused (IsRefused bytes) why)) }
     ensures unbroken { OnOk result (R.has_failed source.new ≡ R.has_failed source.old) }
     ensures fault { IfErr result (λ why. FailsWith why (R.has_failed source.old) (R.has_failed source.new)) }
     ensures read { IfErr result (λ why. IsReadOn (R.to_come source.old) (R.to_come source.new) why) }
 {
-    read_all(alloc, source, Naming::new(alloc))
+    read_all(alloc, source, Naming::new(alloc, keyed))
 }
 
 /// What one that takes a stream has at the end of a source. The source is read as `names_of` reads it.

@@ -1,18 +1,22 @@
-use Rattle.std.proofs.Common.{rules, ◌<◌, length}
-use Rattle.jser_names.proofs.CountLemmas.{inside_counts, raised_kept, raised_tally}
+use Rattle.std.proofs.Common.{rules, refl, ap, ◌∙◌, map}
+use Rattle.jser_names.specs.Counts.{tally_of}
+use Rattle.jser_names.proofs.CountLemmas.{put_back, raised, raised_kept}
 use Rattle.jser_names.proofs.counts.NameCounts.raise.Goals as goal
 
-pub index_mut-count-requires : goal.index_mut-count-requires
-index_mut-count-requires c =
-    let inside : c.args.number < length c.self.inside.counts.items = inside_counts c.self.inside.counts.items c.args.self.now c.args.number c.self.view_is c.requires in
-    search rules
+pub invariant_of-self : goal.invariant_of-self
+invariant_of-self c =
+    raised_kept c.self.inside.names.entries c.args.number c.index_mut-seen.result.now c.index_mut-seen.result.now c.self.invariant c.index_mut-seen.ensures.value refl
+
+pub returns-in_default-clause-kept : goal.returns-in_default-clause-kept
+returns-in_default-clause-kept c =
+    ap (map tally_of) (put_back c.self.inside.names.entries c.args.number c.index_mut-seen.result.now c.index_mut-seen.ensures.value) ∙ c.self.view_is
 
 pub invariant_of-self-2 : goal.invariant_of-self-2
 invariant_of-self-2 c =
-    raised_kept c.self.inside.counts.items c.args.number c.in-Some.times c.index_mut-count.result.now _ c.self.inside.numbers.entries c.self.invariant
-    (inside_counts c.self.inside.counts.items c.args.self.now c.args.number c.self.view_is c.requires) c.index_mut-count.ensures.value (search rules)
+    raised_kept c.self.inside.names.entries c.args.number c.index_mut-seen.result.now (record { times = c.in-Some.times; spelled = c.index_mut-seen.result.now.spelled })
+    c.self.invariant c.index_mut-seen.ensures.value refl
 
 pub returns-clause-counted : goal.returns-clause-counted
 returns-clause-counted c = λ name e.
-    raised_tally name c.self.inside.counts.items c.args.self.now c.args.number c.in-Some.times c.index_mut-count.result.now _
-    c.self.view_is e c.index_mut-count.ensures.value (search rules)
+    raised name c.self.inside.names.entries c.args.self.now c.args.number c.index_mut-seen.result.now (record { times = c.in-Some.times; spelled = c.index_mut-seen.result.now.spelled })
+    c.self.view_is e c.index_mut-seen.ensures.value (search rules)
