@@ -1,5 +1,4 @@
 -- Element names are gathered one by one.
-use denote.Bor.{Bor}
 use Rattle.std.specs.Prelude.{IfErr, OnOk, string_bytes, String}
 use Rattle.std.specs.BTreeSet.{BTreeSet, keys, insert_key}
 use Rattle.std.specs.Ordering.{is_eq, match_ordering}
@@ -155,8 +154,8 @@ take_next (y ∷ xs) (suc n) x e =
 
 -- ---- names that were counted
 
-counted_at : (tallies : List NameTally) (number : ℕ) (lent : Bor NameCount) → IsCount (slice_get tallies number) (Some lent)
-    → slice_get (names_counted tallies) number ≡ Some lent.now.name.items
+counted_at : (tallies : List NameTally) (number : ℕ) (lent : NameCount) → IsCount (slice_get tallies number) (Some lent)
+    → slice_get (names_counted tallies) number ≡ Some lent.name.now
 counted_at [] number lent is = absurd is
 counted_at (t ∷ ts) zero lent is = ap (λ x. Some x.name) (sym is)
 counted_at (t ∷ ts) (suc number) lent is = counted_at ts number lent is
@@ -219,8 +218,8 @@ gains_counted names old new g = record {
 }
 
 -- one checked name more
-pub gains_next : (tallies : List NameTally) (number : ℕ) (old mid new : List (List ℕ)) (lent : Bor NameCount) (name : List ℕ) → IsCount (slice_get tallies number) (Some lent)
-    → name ≡ lent.now.name.items → GainsAll (take number (names_counted tallies)) old mid → GainsAll (name ∷ []) mid new
+pub gains_next : (tallies : List NameTally) (number : ℕ) (old mid new : List (List ℕ)) (lent : NameCount) (name : List ℕ) → IsCount (slice_get tallies number) (Some lent)
+    → name ≡ lent.name.now → GainsAll (take number (names_counted tallies)) old mid → GainsAll (name ∷ []) mid new
     → GainsAll (take (number + 1) (names_counted tallies)) old new
 gains_next tallies number old mid new lent name is same g h =
     let at : slice_get (names_counted tallies) number ≡ Some name = counted_at tallies number lent is ∙ ap Some (sym same) in
@@ -248,8 +247,8 @@ unwritable_of names number name (fault.Stop stop.Spent) e u = u
 unwritable_of names number name (fault.Unwritable units) e (inl u) = some_at (IsUnwritable units.items) names number name e u
 unwritable_of names number name (fault.Unwritable units) e (inr u) = absurd u
 
-pub unwritable_at : (tallies : List NameTally) (number : ℕ) (lent : Bor NameCount) (name : List ℕ) (why : SampleFault) → IsCount (slice_get tallies number) (Some lent)
-    → name ≡ lent.now.name.items → IfUnwritable (name ∷ []) why → IfUnwritable (names_counted tallies) why
+pub unwritable_at : (tallies : List NameTally) (number : ℕ) (lent : NameCount) (name : List ℕ) (why : SampleFault) → IsCount (slice_get tallies number) (Some lent)
+    → name ≡ lent.name.now → IfUnwritable (name ∷ []) why → IfUnwritable (names_counted tallies) why
 unwritable_at tallies number lent name why is same u =
     unwritable_of (names_counted tallies) number name why (counted_at tallies number lent is ∙ ap Some (sym same)) u
 

@@ -29,7 +29,7 @@ pub(crate) fn gather(
         let Some(counted) = checked.get(number) else {
             unreachable!();
         };
-        match gather_one(alloc, counted.name.as_slice(), names) {
+        match gather_one(alloc, counted.name, names) {
             Ok(()) => number += 1,
             Err(fault) => return Err(fault),
         }

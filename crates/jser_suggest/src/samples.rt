@@ -8,7 +8,7 @@ ghost use Rattle.jser_suggest.specs.Suggested.{suggested, suggested_text, widene
 
 use crate::names::gather;
 use crate::text::{text_of, times};
-use jser_names::{Found, names_in};
+use jser_names::{Found, Keyed, names_in};
 use jser_reader::Stop;
 use std::alloc::{AllocError, Global};
 use std::collections::BTreeSet;
@@ -58,7 +58,8 @@ impl Samples {
         }
     }
 
-    /// Takes one good stream more. It goes once along the stream, and keeps the names that are new.
+    /// Takes one good stream more. It goes once along the stream, and keeps the names that are new. They are counted under a fixed
+    /// key: for a stream that someone may have written to be slow, there is `add_found`.
     ///
     /// # Errors
     ///
@@ -68,7 +69,7 @@ impl Samples {
         ensures learns { OnOk result (Learns bytes.now self.old self.new) }
         ensures fault { IfErr result (IsNoSample bytes.now) }
     {
-        match names_in(alloc, bytes) {
+        match names_in(alloc, Keyed::fixed(), bytes) {
             Ok(found) => self.add_found(alloc, &found),
             Err(stop) => Err(SampleFault::Stop(stop)),
         }

@@ -1,4 +1,4 @@
-use Rattle.std.proofs.Common.{rules, arith}
+use Rattle.std.proofs.Common.{rules, refl, arith}
 use Rattle.jser_suggest.specs.Gathering.{name_list}
 use Rattle.jser_suggest.proofs.GatherLemmas.{count_is_there, gained_all, gains_next, unwritable_at}
 use Rattle.jser_suggest.proofs.names.gather.Goals as goal
@@ -11,13 +11,13 @@ pub names-preserved : goal.names-preserved
 names-preserved c = record {
   gained =
       gains_next c.args.checked.now c.names.number (name_list c.args.names.now) (name_list c.names.names) (name_list c.gather_one.new.names) c.in-Some.counted
-      c.as_slice.result.now c.in-Some.ensures c.as_slice.ensures.value c.names.invariant.gained c.in-Ok.ensures.gains;
+      c.in-Some.counted.name.now c.in-Some.ensures refl c.names.invariant.gained c.in-Ok.ensures.gains;
   inside = search rules;
 }
 
 pub returns-in-Err-clause-fault : goal.returns-in-Err-clause-fault
 returns-in-Err-clause-fault c =
-    unwritable_at c.args.checked.now c.names.number c.in-Some.counted c.as_slice.result.now c.in-Err.fault c.in-Some.ensures c.as_slice.ensures.value c.in-Err.ensures.fault
+    unwritable_at c.args.checked.now c.names.number c.in-Some.counted c.in-Some.counted.name.now c.in-Err.fault c.in-Some.ensures refl c.in-Err.ensures.fault
 
 pub returns-clause-gains : goal.returns-clause-gains
 returns-clause-gains c =
