@@ -140,7 +140,8 @@ void serialcheck_stream_free(serialcheck_stream *stream);
 uint32_t serialcheck_show(const uint8_t *bytes, size_t len, size_t most, uint8_t *room, size_t room_len, serialcheck_answer *answer);
 
 /* Writes the text of `list` of a stream in the same way: a line for each class name, with how often the stream has it and what
- * the filter of a text, with a table of modules, says of it. The filter refuses nothing. YES, SMALL, NO, MISUSE or NO_MEMORY. */
+ * the filter of a text, with a table of modules, says of it. The filter refuses nothing. YES, SMALL, NO, MISUSE or NO_MEMORY.
+ * Names are counted under a key from the system's source of random numbers; where that gives none, the answer is NO_MEMORY. */
 uint32_t serialcheck_list(const uint8_t *bytes, size_t len, const uint8_t *filter, size_t filter_len, const uint8_t *modules,
                           size_t modules_len, size_t most, uint8_t *room, size_t room_len, serialcheck_answer *answer);
 

@@ -1,8 +1,14 @@
-/* What the program calls of glibc, and musl 1.2.3 does not have. No proof covers it. */
+/* What the program calls of glibc, and musl 1.2.3, or what is here of it, does not have. No proof covers it. */
 typedef __SIZE_TYPE__ size_t;
 typedef __PTRDIFF_TYPE__ ssize_t;
 
 long syscall(long number, ...);
+
+ssize_t getrandom(void *room, size_t count, unsigned flags);
+int getentropy(void *room, size_t count);
+
+/* At most 256 bytes, which come at once. */
+int getentropy(void *room, size_t count) { return getrandom(room, count, 0) == (ssize_t)count ? 0 : -1; }
 
 struct statx;
 

@@ -14,8 +14,8 @@ from pathlib import Path
 import macos
 
 TOP = Path(__file__).resolve().parent.parent
-# What a library may ask of the C library of its process, or of Windows.
-CALLS = {"calloc", "free", "malloc", "memcpy", "memmove", "memset", "realloc", "strlen"}
+# What a library may ask of the C library of its process, or of Windows. macOS has getentropy, and Linux syscall for the same.
+CALLS = {"calloc", "free", "getentropy", "malloc", "memcpy", "memmove", "memset", "realloc", "strlen", "syscall"}
 CONVENTIONS = ("-std=gnu11", "-O2", "-Wall", "-Wextra", "-Werror")
 
 

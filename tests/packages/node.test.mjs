@@ -2,6 +2,7 @@
 // One instance of the module answers many questions; here each answer is that of an instance which was asked nothing before.
 
 import assert from "node:assert/strict";
+import { webcrypto } from "node:crypto";
 import fs from "node:fs";
 import { createRequire } from "node:module";
 import path from "node:path";
@@ -93,6 +94,14 @@ test("the same of the calls of the package", () => {
     assert.throws(() => check(none, "maxdepth=x"), { name: "TypeError", piece: 0 });
     assert.equal(check(new Uint8Array(20_000_000)).reason, "BadHeader");
     assert.deepEqual(answers(), before);
+});
+
+test("each list counts names under a key of its own from crypto", (context) => {
+    const { mock } = context.mock.method(globalThis.crypto ?? webcrypto, "getRandomValues");
+    const texts = [0, 1].map(() => list(streams[0]).text);
+    assert.equal(texts[0], texts[1]);
+    assert.equal(mock.calls.length, 2);
+    assert.notEqual(mock.calls[0].result[0], mock.calls[1].result[0]);
 });
 
 test("a question inside of another one", () => {

@@ -1,5 +1,4 @@
 -- What `list` prints.
-use denote.Bor.{Bor}
 use Rattle.std.proofs.Common.{◌≡◌, ℕ, zero, suc, ◌+◌, ◌<◌, ◌≤◌, Bool, true, false, List, [], ◌∷◌, ◌++◌, length, take, drop, slice_get, Option, Some, None, codes, refl, sym, ap, subst, ◌∙◌, arith, append_assoc, length-append}
 use Rattle.std.proofs.Math.Seq.{drop-cons, take-append_seam}
 use Rattle.std.proofs.lemmas.List.{drop_all}
@@ -19,7 +18,7 @@ use Rattle.jser_shown.specs.Words.{quoted, quoted_unit}
 use Rattle.jser_names.specs.Sources.{HasNames}
 use Rattle.jser_printer.specs.Says.{Says, Saying}
 use Rattle.jser_printer.proofs.SaysLemmas.{says_before, says_on, says_same, says_both, says_five}
-use Rattle.jser_names.specs.Counts.{IsCount, tally_of}
+use Rattle.jser_names.specs.Counts.{IsCount}
 use Rattle.jser_names.specs.declared.NameCount.{NameCount}
 use Rattle.jser_commands.specs.Counts.{tally_line, lines_before}
 use Rattle.jser_commands.specs.Lines.{AppendsSome, SaysText, SaysRefusal, KeptOrCut, KeptOrSaidSome, marked_words, verdict_words, words_on}
@@ -74,15 +73,14 @@ says_marked a b c d e f filter mark name said is h g =
     (says_both a b c d e f (λ k. mark ++ k) (λ k. words_on filter name ++ k) h (subst (λ v. Says b c e f (λ k. verdict_words v ++ k)) is g))
 
 -- the line of a name
-pub says_line : (a b c d e f g : Outgoing) (p q r s t u v : SinkState) (filter : FilterView) (mark name lent : List ℕ) (times : ℕ) → lent ≡ name
-    → Says a b p q (λ k. decimal times ++ k) → Says b c q r (λ k. 0x20 ∷ k) → Says c d r s (λ k. (mark ++ words_on filter lent) ++ k)
-    → Says d e s t (λ k. 0x20 ∷ k) → Says e f t u (λ k. quoted lent k) → Says f g u v (λ k. 0x0A ∷ k)
+pub says_line : (a b c d e f g : Outgoing) (p q r s t u v : SinkState) (filter : FilterView) (mark name : List ℕ) (times : ℕ)
+    → Says a b p q (λ k. decimal times ++ k) → Says b c q r (λ k. 0x20 ∷ k) → Says c d r s (λ k. (mark ++ words_on filter name) ++ k)
+    → Says d e s t (λ k. 0x20 ∷ k) → Says e f t u (λ k. quoted name k) → Says f g u v (λ k. 0x0A ∷ k)
     → Says a g p v (λ k. tally_line (marked_words mark filter) (name_tally name times) k)
-says_line a b c d e f g p q r s t u v filter mark name lent times same x1 x2 x3 x4 x5 x6 =
-    subst (λ n. Says a g p v (λ k. tally_line (marked_words mark filter) (name_tally n times) k)) same
-    (says_both a b g p q v (λ k. decimal times ++ k) (λ k. 0x20 ∷ ((mark ++ words_on filter lent) ++ (0x20 ∷ quoted lent (0x0A ∷ k)))) x1
-    (says_five b c d e f g q r s t u v (λ k. 0x20 ∷ k) (λ k. (mark ++ words_on filter lent) ++ k) (λ k. 0x20 ∷ k) (λ k. quoted lent k) (λ k. 0x0A ∷ k)
-    x2 x3 x4 x5 x6))
+says_line a b c d e f g p q r s t u v filter mark name times x1 x2 x3 x4 x5 x6 =
+    says_both a b g p q v (λ k. decimal times ++ k) (λ k. 0x20 ∷ ((mark ++ words_on filter name) ++ (0x20 ∷ quoted name (0x0A ∷ k)))) x1
+    (says_five b c d e f g q r s t u v (λ k. 0x20 ∷ k) (λ k. (mark ++ words_on filter name) ++ k) (λ k. 0x20 ∷ k) (λ k. quoted name k) (λ k. 0x0A ∷ k)
+    x2 x3 x4 x5 x6)
 
 -- ---- all lines
 
@@ -91,7 +89,7 @@ lines_are words [] = refl
 lines_are words (t ∷ ts) = ap (tally_line words t) (lines_are words ts)
 
 -- the tally at a number, as it is lent
-pub count_at : (found : Option NameTally) (lent : Bor NameCount) → IsCount found (Some lent) → found ≡ Some (tally_of lent.now)
+pub count_at : (found : Option NameTally) (lent : NameCount) → IsCount found (Some lent) → found ≡ Some (name_tally lent.name.now lent.times)
 count_at None lent is = absurd is
 count_at (Some tally) lent is = ap Some (sym is)
 

@@ -8,22 +8,23 @@ ghost use Rattle.jser_shown.specs.Counting.{tally_all};
 ghost use Rattle.jser_commands.specs.Places.{KeepsPlaces, NotesPlace};
 
 use jser_anywhere::Names;
-use jser_names::NameCounts;
+use jser_names::{Keyed, NameCounts};
 use jser_table::{Element, element_of};
 use std::alloc::{AllocError, Global};
 use std::marker::Model;
 
 /// The classes of the names that can be read at any place of these bytes and are not checked, in the order in which they can first
-/// be read, each with the number of places where it can be.
+/// be read, each with the number of places where it can be. They are counted under this key.
 pub(crate) fn hidden_names(
     alloc: Global,
+    keyed: Keyed,
     bytes: &[u8],
     checked: &NameCounts,
 ) -> Result<NameCounts, AllocError>
     ensures { IfOk result (λ hidden. hidden ≡ tally_all [] (hidden_of (names_counted checked.now) (once_each [] (names_in 0 bytes.now)))) }
 {
     let mut places = Places::new(alloc, bytes.len())?;
-    let mut hidden = NameCounts::new(alloc);
+    let mut hidden = NameCounts::new(alloc, keyed);
     let mut names = Names::new(bytes);
     'names: while let Some(stand) = names.next() {
         if places.note(stand.at) && is_hidden(checked, names.text(), names.units()) {

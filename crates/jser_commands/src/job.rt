@@ -13,6 +13,7 @@ use crate::telling::{ByInput, ByNone, Telling};
 use jser_check::{AnywhereFault, CheckFault, Options, Stop, check_anywhere, check_reader};
 use jser_filter::Filter;
 use jser_inputs::Input;
+use jser_names::Keyed;
 use jser_prim::{Sink, Source};
 use jser_settings::{ACCEPTED, REFUSED, tell_failure, tell_input_fault};
 use std::alloc::Global;
@@ -67,6 +68,9 @@ pub enum Job {
 /// Nothing is printed to `output` before the input was accepted or refused. The input is read in pieces. A check keeps none of
 /// it, a list its names, and the others all of it until it is refused. The other jobs than a check read on then, at most
 /// 2^40 + 1 bytes in all, and keep none.
+///
+/// A list counts names under a key that everybody knows: whoever writes the stream can choose names whose count takes a time that
+/// grows with the square of their number. `run_input` takes another key.
 pub fn run<R: Source, W: Sink, E: Sink>(
     alloc: Global,
     job: &Job,
@@ -83,12 +87,14 @@ pub fn run<R: Source, W: Sink, E: Sink>(
     ensures quiet { result ≢ 3 → faults.new ≡ faults.old }
     ensures status { (result ≡ 0) ⊎ ((result ≡ 1) ⊎ ((result ≡ 3) ⊎ ((result ≡ 4) × HasLimit job.now))) }
 {
-    run_by::<R, ByNone, W, E>(alloc, job, input, output, faults)
+    run_by::<R, ByNone, W, E>(alloc, Keyed::fixed(), job, input, output, faults)
 }
 
-/// Does the job on an input, which says why it failed where it did.
+/// Does the job as `run` does, on an input, which says why it failed where it did. The names of a list are counted under this key,
+/// which changes nothing that is printed.
 pub fn run_input<R: Input, W: Sink, E: Sink>(
     alloc: Global,
+    keyed: Keyed,
     job: &Job,
     input: &mut R,
     output: &mut W,
@@ -103,12 +109,13 @@ pub fn run_input<R: Input, W: Sink, E: Sink>(
     ensures quiet { result ≢ 3 → faults.new ≡ faults.old }
     ensures status { (result ≡ 0) ⊎ ((result ≡ 1) ⊎ ((result ≡ 3) ⊎ ((result ≡ 4) × HasLimit job.now))) }
 {
-    run_by::<R, ByInput, W, E>(alloc, job, input, output, faults)
+    run_by::<R, ByInput, W, E>(alloc, keyed, job, input, output, faults)
 }
 
 /// Does the job; of a source that failed this says why.
 fn run_by<R: Source, Y: Telling<R>, W: Sink, E: Sink>(
     alloc: Global,
+    keyed: Keyed,
     job: &Job,
     input: &mut R,
     output: &mut W,
@@ -136,9 +143,9 @@ fn run_by<R: Source, Y: Telling<R>, W: Sink, E: Sink>(
         Job::ShowLimited { values, limit } => {
             show_limited::<R, Y, W, E>(alloc, *values, *limit, input, output, faults)
         }
-        Job::List { filter } => list::<R, Y, W, E>(alloc, filter, input, output, faults),
+        Job::List { filter } => list::<R, Y, W, E>(alloc, keyed, filter, input, output, faults),
         Job::ListAnywhere { filter } => list_anywhere::<R, Y, W, E>(
-            alloc, filter, input, output, faults,
+            alloc, keyed, filter, input, output, faults,
         ),
     }
 }

@@ -3,8 +3,7 @@
 ghost use Rattle.std.specs.Prelude.{◌≡◌, ◌≢◌, ◌⊎◌, ◌++◌, IfErr, IfOk, IfSome, OnErr, OnOk, true};
 ghost use Rattle.std.specs.Io.KnownBytes.{Appends};
 ghost use Rattle.jser_filter.specs.Filters.{verdict_of};
-ghost use Rattle.jser_shown.specs.Counting.{tally_lines};
-ghost use Rattle.jser_names.specs.Counts.{tally_of};
+ghost use Rattle.jser_shown.specs.Counting.{name_tally, tally_lines};
 ghost use Rattle.jser_shown.specs.Listed.{listed};
 ghost use Rattle.jser_index.specs.Reading.{IsRefused};
 ghost use Rattle.jser_names.specs.Sources.{HasNames};
@@ -16,7 +15,7 @@ ghost use Rattle.jser_commands.specs.Lines.{AppendsSome, SaysText, SaysRefusal, 
 use crate::input::{Unread, print_unread, unread_of};
 use crate::telling::Telling;
 use jser_filter::{Filter, Verdict};
-use jser_names::{NameCount, NameCounts, names_of};
+use jser_names::{Keyed, NameCount, NameCounts, names_of};
 use jser_prim::{Failed, Outbox, Sink, Source};
 use jser_printer::{write, write_decimal, write_quoted};
 use jser_settings::{ACCEPTED, tell_failure};
@@ -24,10 +23,11 @@ use jser_shown::laws::counted;
 use jser_table::{Element, element_of};
 use std::alloc::Global;
 
-/// Reads the stream of the input in pieces, and prints the lines of its checked names.
+/// Reads the stream of the input in pieces, and prints the lines of its checked names, which are counted under this key.
 #[tactic(auto, using(crate::proofs::ListLemmas::says_listed, crate::proofs::InputLemmas::says_refusal, crate::proofs::InputLemmas::refusal_cut, crate::proofs::InputLemmas::unbroken_refusal, crate::proofs::InputLemmas::why_unread))]
 pub(crate) fn list<R: Source, Y: Telling<R>, W: Sink, E: Sink>(
     alloc: Global,
+    keyed: Keyed,
     filter: &Filter,
     input: &mut R,
     output: &mut W,
@@ -42,7 +42,7 @@ pub(crate) fn list<R: Source, Y: Telling<R>, W: Sink, E: Sink>(
     ensures quiet { result ≢ 3 → faults.new ≡ faults.old }
 {
     counted();
-    match read_names(alloc, input) {
+    match read_names(alloc, keyed, input) {
         Ok(names) => print_names(filter, &names, output, faults),
         Err(unread) => print_unread(alloc, unread, Y::fault(input), output, faults),
     }
@@ -55,13 +55,13 @@ pub(crate) fn list<R: Source, Y: Telling<R>, W: Sink, E: Sink>(
 ///
 /// `Unread`, with the reason. A failed read is told whatever came before it.
 #[tactic(auto, using(crate::proofs::InputLemmas::unread_refuses, crate::proofs::InputLemmas::unread_fails))]
-fn read_names<R: Source>(alloc: Global, input: &mut R) -> Result<NameCounts, Unread>
+fn read_names<R: Source>(alloc: Global, keyed: Keyed, input: &mut R) -> Result<NameCounts, Unread>
     ensures accepted { IfOk result (λ names. IfSome (R.to_come input.old) (λ bytes. HasNames bytes names)) }
     ensures refused { IfErr result (λ unread. IfSome (R.to_come input.old) (λ bytes. IfUnreadRefused (IsRefused bytes) unread)) }
     ensures unbroken { OnOk result (R.has_failed input.new ≡ R.has_failed input.old) }
     ensures fault { IfErr result (λ unread. IsReadFault unread (R.has_failed input.old) (R.has_failed input.new)) }
 {
-    match names_of(alloc, input) {
+    match names_of(alloc, keyed, input) {
         Ok(names) => Ok(names),
         Err(fault) => Err(unread_of(fault)),
     }
@@ -137,16 +137,15 @@ fn write_line<W: Sink>(
     sink: &mut W,
     filter: &Filter,
     mark: &[u8],
-    count: &NameCount,
+    count: NameCount<'_>,
 )
-    ensures { SaysTo W.gone_out W.has_failed outbox.old outbox.new sink.old sink.new (λ k. tally_line (marked_words mark.now filter.now) (tally_of count.now) k) }
+    ensures { SaysTo W.gone_out W.has_failed outbox.old outbox.new sink.old sink.new (λ k. tally_line (marked_words mark.now filter.now) (name_tally count.name.now count.times) k) }
 {
-    let name = count.name.as_slice();
     write_decimal(outbox, sink, count.times);
     write(outbox, sink, b" ");
-    write_marked(outbox, sink, filter, mark, name);
+    write_marked(outbox, sink, filter, mark, count.name);
     write(outbox, sink, b" ");
-    write_quoted(outbox, sink, name);
+    write_quoted(outbox, sink, count.name);
     write(outbox, sink, b"\n");
 }
 

@@ -14,16 +14,18 @@ use crate::input::{Unread, print_unread, unread_of};
 use crate::list::write_lines;
 use crate::telling::Telling;
 use jser_filter::Filter;
-use jser_names::{NameCounts, NamedStream, bytes_and_names_of};
+use jser_names::{Keyed, NameCounts, NamedStream, bytes_and_names_of};
 use jser_prim::{Outbox, Sink, Source};
 use jser_settings::{ACCEPTED, tell_failure};
 use jser_shown::laws::counted;
 use std::alloc::Global;
 
-/// Reads the stream of the input, and prints the lines of its checked names and of those at any place.
+/// Reads the stream of the input, and prints the lines of its checked names and of those at any place, both counted under this
+/// key.
 #[tactic(auto, using(crate::proofs::InputLemmas::says_refusal, crate::proofs::InputLemmas::refusal_cut, crate::proofs::InputLemmas::unbroken_refusal, crate::proofs::InputLemmas::why_unread))]
 pub(crate) fn list_anywhere<R: Source, Y: Telling<R>, W: Sink, E: Sink>(
     alloc: Global,
+    keyed: Keyed,
     filter: &Filter,
     input: &mut R,
     output: &mut W,
@@ -38,8 +40,8 @@ pub(crate) fn list_anywhere<R: Source, Y: Telling<R>, W: Sink, E: Sink>(
     ensures quiet { result ≢ 3 → faults.new ≡ faults.old }
 {
     counted();
-    match read_whole(alloc, input) {
-        Ok(whole) => print_whole(alloc, filter, &whole, output, faults),
+    match read_whole(alloc, keyed, input) {
+        Ok(whole) => print_whole(alloc, keyed, filter, &whole, output, faults),
         Err(unread) => print_unread(alloc, unread, Y::fault(input), output, faults),
     }
 }
@@ -50,13 +52,13 @@ pub(crate) fn list_anywhere<R: Source, Y: Telling<R>, W: Sink, E: Sink>(
 ///
 /// `Unread`, with the reason. A failed read is told whatever came before it.
 #[tactic(auto, using(crate::proofs::InputLemmas::unread_refuses, crate::proofs::InputLemmas::unread_fails))]
-fn read_whole<R: Source>(alloc: Global, input: &mut R) -> Result<NamedStream, Unread>
+fn read_whole<R: Source>(alloc: Global, keyed: Keyed, input: &mut R) -> Result<NamedStream, Unread>
     ensures accepted { IfOk result (λ whole. IfSome (R.to_come input.old) (λ bytes. IsNamed bytes whole)) }
     ensures refused { IfErr result (λ unread. IfSome (R.to_come input.old) (λ bytes. IfUnreadRefused (IsRefused bytes) unread)) }
     ensures unbroken { OnOk result (R.has_failed input.new ≡ R.has_failed input.old) }
     ensures fault { IfErr result (λ unread. IsReadFault unread (R.has_failed input.old) (R.has_failed input.new)) }
 {
-    match bytes_and_names_of(alloc, input) {
+    match bytes_and_names_of(alloc, keyed, input) {
         Ok(whole) => Ok(whole),
         Err(fault) => Err(unread_of(fault)),
     }
@@ -66,6 +68,7 @@ fn read_whole<R: Source>(alloc: Global, input: &mut R) -> Result<NamedStream, Un
 #[tactic(auto, using(crate::proofs::Lines::kept))]
 fn print_whole<W: Sink, E: Sink>(
     alloc: Global,
+    keyed: Keyed,
     filter: &Filter,
     whole: &NamedStream,
     output: &mut W,
@@ -78,7 +81,7 @@ fn print_whole<W: Sink, E: Sink>(
     ensures unbroken { result ≡ 0 → W.has_failed output.new ≡ W.has_failed output.old }
     ensures quiet { result ≡ 0 → faults.new ≡ faults.old }
 {
-    match hidden_names(alloc, &whole.bytes, &whole.names) {
+    match hidden_names(alloc, keyed, &whole.bytes, &whole.names) {
         Ok(hidden) => print_both(filter, &whole.names, &hidden, output, faults),
         Err(_) => tell_failure(faults, "out of memory\n"),
     }

@@ -46,6 +46,7 @@ use answer::{Answer, NO_MEMORY, SPENT, bare};
 use class::{class_into, refused_into};
 use compiled::{Compiled, compile, compile_file};
 use filter_handle::FilterHandle;
+use jser_names::Keyed;
 use lent_filter::{LentFilter, is_open, pointer_of};
 use line::line_into;
 use named::{meaning_of_reason, name_of_cause, name_of_reason};
@@ -339,10 +340,12 @@ pub extern "C" fn serialcheck_show(
 
 /// Writes the text of `list` of a stream into a room, or as many of its first bytes as the room has; the answer has the length
 /// of the whole text. Of a text of more than `most` bytes no more is made: the answer is 6 then, with no length. The filter of a
-/// text and of a table of modules is asked about each name, and refuses nothing.
+/// text and of a table of modules is asked about each name, and refuses nothing. Names are counted under the key, which changes
+/// no answer: bindings/c/empty.c takes one from the system.
 #[unsafe(no_mangle)]
-pub extern "C" fn serialcheck_list(
+pub extern "C" fn serialcheck_list_keyed(
     alloc: Global,
+    key: u64,
     bytes: &[u8],
     filter: &[u8],
     modules: &[u8],
@@ -358,7 +361,8 @@ pub extern "C" fn serialcheck_list(
     ensures known { (result ≡ 0) ⊎ ((result ≡ 1) ⊎ ((result ≡ 2) ⊎ ((result ≡ 3) ⊎ (result ≡ 6)))) }
     ensures zeros { TextZeros answer.new }
 {
-    *answer = list_text(alloc, bytes, filter, modules, most, room);
+    let keyed = Keyed::new(key);
+    *answer = list_text(alloc, keyed, bytes, filter, modules, most, room);
     answer.status
 }
 

@@ -14,7 +14,7 @@ use crate::room::put_start;
 use jser_commands::{start_of_list, start_of_show};
 use jser_filter::Filter;
 use jser_index::Index;
-use jser_names::{Found, NameCounts, names_in};
+use jser_names::{Found, Keyed, NameCounts, names_in};
 use jser_reader::Stop;
 use jser_shown::laws::counted;
 use std::alloc::Global;
@@ -49,10 +49,11 @@ fn put_show(alloc: Global, index: &Index<&[u8]>, most: usize, room: &mut [u8]) -
 }
 
 /// The answer to the text of `list` that is wanted in a room, under the filter of a text and of a table of modules. No more than
-/// one byte beyond `most` is made of it.
+/// one byte beyond `most` is made of it. Names are counted under this key.
 #[tactic(auto, using(crate::proofs::TextLemmas::lists_under, crate::proofs::ZeroLemmas::misuse_text))]
 pub(crate) fn list_text(
     alloc: Global,
+    keyed: Keyed,
     bytes: &[u8],
     text: &[u8],
     modules: &[u8],
@@ -67,14 +68,21 @@ pub(crate) fn list_text(
     ensures zeros { TextZeros result }
 {
     match filter_with(alloc, text, modules) {
-        Ok(filter) => list_under(alloc, bytes, &filter, most, room),
+        Ok(filter) => list_under(alloc, keyed, bytes, &filter, most, room),
         Err(answer) => answer,
     }
 }
 
 /// The answer under a filter.
 #[tactic(auto, using(crate::proofs::TextLemmas::lists_names, crate::proofs::ZeroLemmas::no_text, crate::proofs::ZeroLemmas::memory_text))]
-fn list_under(alloc: Global, bytes: &[u8], filter: &Filter, most: usize, room: &mut [u8]) -> Answer
+fn list_under(
+    alloc: Global,
+    keyed: Keyed,
+    bytes: &[u8],
+    filter: &Filter,
+    most: usize,
+    room: &mut [u8],
+) -> Answer
     ensures listed { TellsNames filter.now most bytes.now room.old room.new result }
     ensures refused { result.status ≡ 1 → TellsRefusal (IsRefused bytes.now) result }
     ensures kept { (result.status ≡ 1) ⊎ (result.status ≡ 3) → room.new ≡ room.old }
@@ -82,7 +90,7 @@ fn list_under(alloc: Global, bytes: &[u8], filter: &Filter, most: usize, room: &
     ensures zeros { TextZeros result }
 {
     counted();
-    match names_in(alloc, bytes) {
+    match names_in(alloc, keyed, bytes) {
         Ok(Found { names, .. }) => put_list(alloc, filter, &names, most, room),
         Err(Stop::Refused(fault)) => refused(fault, 0),
         Err(_) => bare(NO_MEMORY),

@@ -1,6 +1,6 @@
 //! serialcheck: checks and shows Java serialization streams, and runs none of their classes.
 //!
-//! `main` reads the command line, the filter and the table of modules, and then opens the input; `run` of jser_commands
+//! `main` reads the command line, the filter and the table of modules, and then opens the input; `run_input` of jser_commands
 //! does the work on what was opened.
 #![tactic(auto)]
 
@@ -29,7 +29,7 @@ use crate::number::number_from_one;
 use crate::records::check_records;
 use crate::scan::{Task, scan_paths};
 use crate::suggest::suggest_from;
-use jser_commands::{Job, run_input};
+use jser_commands::{Job, Keyed, run_input};
 use jser_filter::Filter;
 use jser_inputs::{Decoded, Form, Input};
 use jser_line::{Clash, Filters, Line, LineFault, line_of, printable};
@@ -44,6 +44,7 @@ use std::env;
 use std::fs::File;
 use std::io::ErrorKind;
 use std::process::ExitCode;
+use std::random::RandomSource;
 
 fn main(rt: HostRuntime) -> ExitCode {
     let mut output = ToWrite::new(rt.stdout());
@@ -141,7 +142,15 @@ fn on_line<W: Sink, E: Sink>(rt: &HostRuntime, line: &Line, output: &mut W, faul
         } => match filter_with(rt, filters, faults) {
             Ok(filter) => {
                 let job = check_job(filter, *strict, *anywhere);
-                on_file(rt, &job, forms.form(), file.as_str(), output, faults)
+                on_file(
+                    rt,
+                    Keyed::fixed(),
+                    &job,
+                    forms.form(),
+                    file.as_str(),
+                    output,
+                    faults,
+                )
             }
             Err(status) => status,
         },
@@ -151,7 +160,15 @@ fn on_line<W: Sink, E: Sink>(rt: &HostRuntime, line: &Line, output: &mut W, faul
             limit,
             file,
         } => match show_job(*values, limit, faults) {
-            Ok(job) => on_file(rt, &job, forms.form(), file.as_str(), output, faults),
+            Ok(job) => on_file(
+                rt,
+                Keyed::fixed(),
+                &job,
+                forms.form(),
+                file.as_str(),
+                output,
+                faults,
+            ),
             Err(status) => status,
         },
         Line::Records(words) => check_records(rt, words, output, faults),
@@ -172,7 +189,7 @@ fn on_line<W: Sink, E: Sink>(rt: &HostRuntime, line: &Line, output: &mut W, faul
         } => match filter_with(rt, filters, faults) {
             Ok(filter) => {
                 let job = list_job(filter, *anywhere);
-                on_file(rt, &job, forms.form(), file.as_str(), output, faults)
+                list_file(rt, &job, forms.form(), file.as_str(), output, faults)
             }
             Err(status) => status,
         },
@@ -390,9 +407,42 @@ fn with_modules_of<R: Source, E: Sink>(
     }
 }
 
-/// Does the job on a file in this form, or on standard input where it is named `-`.
+/// Does the job of a list on a file in this form, or on standard input where it is named `-`. Who wrote it does not know the key
+/// under which its names are counted.
+fn list_file<W: Sink, E: Sink>(
+    rt: &HostRuntime,
+    job: &Job,
+    form: Form,
+    file: &str,
+    output: &mut W,
+    faults: &mut E,
+) -> u8
+    ensures status { (result ≡ 0) ⊎ ((result ≡ 1) ⊎ ((result ≡ 3) ⊎ ((result ≡ 4) × HasLimit job.now))) }
+    ensures unbroken { result ≢ 3 → W.has_failed output.new ≡ W.has_failed output.old }
+    ensures misuse { result ≢ 2 }
+{
+    match new_key(rt, faults) {
+        Ok(keyed) => on_file(rt, keyed, job, form, file, output, faults),
+        Err(status) => status,
+    }
+}
+
+/// A key that nobody knows. Where the system has none, that is told as a failed read.
+pub(crate) fn new_key<E: Sink>(rt: &HostRuntime, faults: &mut E) -> Result<Keyed, u8>
+    ensures { IfErr result (λ status. status ≡ 3) }
+{
+    let mut key = [0; 8];
+    match rt.fill_bytes(&mut key) {
+        Ok(()) => Ok(Keyed::new(u64::from_le_bytes(key))),
+        Err(_) => Err(tell_failure(faults, "read failed\n")),
+    }
+}
+
+/// Does the job on a file in this form, or on standard input where it is named `-`; the names of a list are counted under this
+/// key.
 fn on_file<W: Sink, E: Sink>(
     rt: &HostRuntime,
+    keyed: Keyed,
     job: &Job,
     form: Form,
     file: &str,
@@ -407,15 +457,16 @@ fn on_file<W: Sink, E: Sink>(
     match Opened::new(rt, file) {
         Ok(opened) => {
             let mut input = Decoded::new(FromRead::new(opened), form);
-            on_input(alloc, job, &mut input, output, faults)
+            on_input(alloc, keyed, job, &mut input, output, faults)
         }
         Err(_) => tell_unopened(alloc, file, faults),
     }
 }
 
-/// Does the job on an opened input. Of what `run` promises it passes on the statuses, and whether the output failed.
+/// Does the job on an opened input. Of what `run_input` promises it passes on the statuses, and whether the output failed.
 fn on_input<R: Input, W: Sink, E: Sink>(
     alloc: Global,
+    keyed: Keyed,
     job: &Job,
     input: &mut R,
     output: &mut W,
@@ -425,7 +476,7 @@ fn on_input<R: Input, W: Sink, E: Sink>(
     ensures unbroken { result ≢ 3 → W.has_failed output.new ≡ W.has_failed output.old }
     ensures misuse { result ≢ 2 }
 {
-    run_input(alloc, job, input, output, faults)
+    run_input(alloc, keyed, job, input, output, faults)
 }
 
 /// Tells that a file cannot be opened, and returns the status of a failure.

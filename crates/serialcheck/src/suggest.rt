@@ -2,8 +2,9 @@
 ghost use Rattle.std.specs.Prelude.{◌≡◌, ◌≢◌, ◌⊎◌, ◌≤◌, IfErr};
 
 use crate::files::{Opened, path_of, unopened};
+use crate::new_key;
 use jser_inputs::{Decoded, Form, Input};
-use jser_names::{NamesFault, found_of};
+use jser_names::{Keyed, NamesFault, found_of};
 use jser_prim::{FromRead, Sink};
 use jser_reader::Stop;
 use jser_scan::{Found, print_suggested, tell_found, tell_no_sample};
@@ -33,20 +34,25 @@ pub(crate) fn suggest_from<W: Sink, E: Sink>(
     ensures unbroken { result ≢ 3 → W.has_failed output.new ≡ W.has_failed output.old }
     ensures misuse { result ≡ 2 → output.new ≡ output.old }
 {
+    let keyed = match new_key(rt, faults) {
+        Ok(keyed) => keyed,
+        Err(status) => return status,
+    };
     let mut samples = Samples::new(rt.alloc());
-    match learn_all(rt, form, files, &mut samples, faults) {
+    match learn_all(rt, keyed, form, files, &mut samples, faults) {
         Ok(()) => print_suggested(rt.alloc(), &samples, slack, output, faults),
         Err(status) => status,
     }
 }
 
-/// Takes one file after another.
+/// Takes one file after another. Their names are counted under this key.
 ///
 /// # Errors
 ///
 /// The status, after the line of the first file that is no good one.
 fn learn_all<E: Sink>(
     rt: &HostRuntime,
+    keyed: Keyed,
     form: Form,
     files: &[String],
     samples: &mut Samples,
@@ -55,7 +61,7 @@ fn learn_all<E: Sink>(
     ensures { IfErr result (λ status. status ≤ 3) }
 {
     for file in files {
-        if let Err(fault) = learn(rt, form, file.as_str(), samples) {
+        if let Err(fault) = learn(rt, keyed, form, file.as_str(), samples) {
             return Err(tell(rt, file.as_str(), &fault, faults));
         }
     }
@@ -63,9 +69,20 @@ fn learn_all<E: Sink>(
 }
 
 /// Takes a file, or standard input where it is named `-`.
-fn learn(rt: &HostRuntime, form: Form, file: &str, samples: &mut Samples) -> Result<(), NoSample> {
+fn learn(
+    rt: &HostRuntime,
+    keyed: Keyed,
+    form: Form,
+    file: &str,
+    samples: &mut Samples,
+) -> Result<(), NoSample> {
     match Opened::new(rt, file) {
-        Ok(opened) => learn_input(rt, &mut Decoded::new(FromRead::new(opened), form), samples),
+        Ok(opened) => learn_input(
+            rt,
+            keyed,
+            &mut Decoded::new(FromRead::new(opened), form),
+            samples,
+        ),
         Err(error) => Err(NoSample::Unread(unopened(&error))),
     }
 }
@@ -73,10 +90,11 @@ fn learn(rt: &HostRuntime, form: Form, file: &str, samples: &mut Samples) -> Res
 /// Takes an opened input, which is read once. Of one that is no stream nothing is kept.
 fn learn_input<R: Input>(
     rt: &HostRuntime,
+    keyed: Keyed,
     input: &mut R,
     samples: &mut Samples,
 ) -> Result<(), NoSample> {
-    match found_of(rt.alloc(), input) {
+    match found_of(rt.alloc(), keyed, input) {
         Ok(found) => match samples.add_found(rt.alloc(), &found) {
             Ok(()) => Ok(()),
             Err(fault) => Err(NoSample::Read(fault)),

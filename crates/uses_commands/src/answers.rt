@@ -5,7 +5,7 @@ ghost use Rattle.jser_inputs.specs.declared.fault.InputFault.TheVariants as faul
 ghost use Rattle.jser_commands.specs.Lines.{SaysWhy};
 ghost use Rattle.uses_commands.specs.Answers.{EachListPrints, IsNo, IsYes, PrintsNothing};
 
-use jser_commands::{Job, run, run_input};
+use jser_commands::{Job, Keyed, run, run_input};
 use jser_inputs::Input;
 use jser_prim::{Sink, Source};
 use jser_reading::laws::one_reading;
@@ -31,7 +31,7 @@ pub fn answers<R: Input, W: Sink, E: Sink>(
     ensures unbroken { result ≢ None → (R.has_failed input.new ≡ R.has_failed input.old) × (W.has_failed output.new ≡ W.has_failed output.old) }
 {
     one_reading();
-    answer_of(run_input(alloc, job, input, output, faults))
+    answer_of(run_input(alloc, Keyed::fixed(), job, input, output, faults))
 }
 
 /// Whether the answer to a job on any source is yes, as of an input; of its failure nothing is known but that a read failed.

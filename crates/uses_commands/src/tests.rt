@@ -1,7 +1,7 @@
 //! The jobs of the program and what they set, on worked streams: what goes out, what is told, and the status.
 
 use crate::tests::asserted::same;
-use jser_commands::{Job, run, run_input};
+use jser_commands::{Job, Keyed, run, run_input};
 use jser_filter::Filter;
 use jser_inputs::{Decoded, Form};
 use jser_prim::Source;
@@ -63,7 +63,14 @@ fn list_anywhere(rt: &(impl Abort + AllocGlobal), text: &str) -> Job {
 fn does(rt: &(impl Abort + AllocGlobal), job: &Job, bytes: &[u8], text: &[u8], status: u8) {
     let (mut output, mut faults) = (page(rt), page(rt));
     let mut input = Decoded::new(Pieces::new(bytes, 7), Form::Binary);
-    let found = run_input(rt.alloc(), job, &mut input, &mut output, &mut faults);
+    let found = run_input(
+        rt.alloc(),
+        Keyed::new(1),
+        job,
+        &mut input,
+        &mut output,
+        &mut faults,
+    );
     has(rt, &output, text, "what goes out");
     has(rt, &faults, b"", "what is told");
     same(rt, &found, &status, "the status");

@@ -7,7 +7,7 @@ ghost use Rattle.jser_suggest.specs.Samples.{AreKnown};
 
 use crate::least::{Unsuggested, parsed};
 use jser_filter::Filter;
-use jser_names::{NamesFault, found_of};
+use jser_names::{Keyed, NamesFault, found_of};
 use jser_prim::Source;
 use jser_suggest::Samples;
 use jser_suggest::laws::admits;
@@ -22,17 +22,22 @@ pub enum NoFilter {
     Unsuggested(Unsuggested),
 }
 
-/// The filter that is suggested for the stream of a source. It admits that stream, strict or not.
+/// The filter that is suggested for the stream of a source, whose names are counted under this key. It admits that stream, strict or
+/// not.
 ///
 /// # Errors
 ///
 /// `Unread`, where it has no stream; `Unsuggested`.
 #[tactic(auto, using(crate::proofs::SourceLemmas::source_admitted))]
-pub fn filter_of_source<R: Source>(alloc: Global, source: &mut R) -> Result<Filter, NoFilter>
+pub fn filter_of_source<R: Source>(
+    alloc: Global,
+    keyed: Keyed,
+    source: &mut R,
+) -> Result<Filter, NoFilter>
     ensures { IfOk result (λ filter. IfSome (R.to_come source.old) (λ bytes. (options : Options) → AreAdmitted filter options bytes)) }
 {
     admits();
-    let found = match found_of(alloc, source) {
+    let found = match found_of(alloc, keyed, source) {
         Ok(found) => found,
         Err(fault) => return Err(NoFilter::Unread(fault)),
     };

@@ -3,6 +3,5 @@ use Rattle.jser_commands.proofs.list.write_line.Goals as goal
 
 pub returns : goal.returns
 returns g c =
-    says_line _ _ _ _ _ _ _ _ _ _ _ _ _ _ c.args.filter.now c.args.mark.now c.args.count.now.name.items c.as_slice-name.result.now c.args.count.now.times
-    c.as_slice-name.ensures.value c.write_decimal.ensures
-    c.write.ensures c.write_marked.ensures c.write-2.ensures c.write_quoted.ensures c.write-3.ensures
+    says_line _ _ _ _ _ _ _ _ _ _ _ _ _ _ c.args.filter.now c.args.mark.now c.args.count.name.now c.args.count.times
+    c.write_decimal.ensures c.write.ensures c.write_marked.ensures c.write-2.ensures c.write_quoted.ensures c.write-3.ensures

@@ -1,6 +1,6 @@
 use Rattle.std.proofs.Common.{arith}
 use Rattle.jser_printer.proofs.SaysLemmas.{says_none}
-use Rattle.jser_names.specs.Counts.{tally_of}
+use Rattle.jser_shown.specs.Counting.{name_tally}
 use Rattle.jser_commands.specs.Lines.{marked_words}
 use Rattle.jser_commands.proofs.ListLemmas.{count_at, count_is_there, lines_on, lines_ended}
 use Rattle.jser_commands.proofs.list.write_lines.Goals as goal
@@ -14,7 +14,7 @@ unreachable-requires g c =
 
 pub lines-preserved : goal.lines-preserved
 lines-preserved g c =
-    lines_on _ _ _ _ _ _ (marked_words c.args.mark.now c.args.filter.now) c.args.names.now c.lines.number (tally_of c.in-Some.count.now) _
+    lines_on _ _ _ _ _ _ (marked_words c.args.mark.now c.args.filter.now) c.args.names.now c.lines.number (name_tally c.in-Some.count.name.now c.in-Some.count.times) _
     (count_at _ c.in-Some.count c.in-Some.ensures) c.lines.invariant c.write_line.ensures
 
 pub returns : goal.returns
