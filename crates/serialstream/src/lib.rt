@@ -30,6 +30,6 @@ pub use jser_grammar::wire::{
 };
 pub use jser_prim::{Failed, FromRead, Source};
 pub use jser_reader::{
-    Answer, FeedFault, Field, Gate, Item, Limits as GateLimits, OpenGate, Place, Reader, Reason,
-    Refusal, Step, Stop, Totals, Visit, Whereabouts, Whole,
+    Answer, FeedFault, Field, Gate, Item, Limits as GateLimits, OpenGate, Reader, Reason, Refusal,
+    Step, Stop, Totals, Visit, Whereabouts, Whole,
 };
