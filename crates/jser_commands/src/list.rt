@@ -139,7 +139,7 @@ fn write_line<W: Sink>(
     mark: &[u8],
     count: NameCount<'_>,
 )
-    ensures { SaysTo W.gone_out W.has_failed outbox.old outbox.new sink.old sink.new (λ k. tally_line (marked_words mark.now filter.now) (name_tally count.name.now count.times) k) }
+    ensures { SaysTo W.gone_out W.has_failed outbox.old outbox.new sink.old sink.new (λ k. tally_line (marked_words mark.now filter.now) (name_tally count.entry.name.now count.entry.times) k) }
 {
     write_decimal(outbox, sink, count.times);
     write(outbox, sink, b" ");
