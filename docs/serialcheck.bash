@@ -3,6 +3,7 @@ _serialcheck() {
     local word=${COMP_WORDS[COMP_CWORD]} before=${COMP_WORDS[COMP_CWORD-1]} options
     local filter='--filter --filter-file --modules' form='--hex --base64 --base64url'
     local commands='check explain show list scan records find suggest'
+    COMPREPLY=()
     if ((COMP_CWORD == 1)); then
         mapfile -t COMPREPLY < <(compgen -W "$commands help --help --version" -- "$word")
         return
@@ -20,9 +21,14 @@ _serialcheck() {
     find) options="$filter --strict --text --all --most --effort --json --progress --carve --most-files --help" ;;
     scan) options="$filter --strict $form --anywhere --refused --json --progress --help" ;;
     esac
-    if [[ $before == --filter || $before == --limit || $before == --field || $before == --most || $before == --slack ]]; then
-        COMPREPLY=()
-    elif [[ $word == -* ]]; then
+    case $before in
+    --filter | --limit | --field | --most | --effort | --most-files | --slack) return ;;
+    --carve)
+        mapfile -t COMPREPLY < <(compgen -d -- "$word")
+        return
+        ;;
+    esac
+    if [[ $word == -* ]]; then
         mapfile -t COMPREPLY < <(compgen -W "$options" -- "$word")
     else
         mapfile -t COMPREPLY < <(compgen -f -- "$word")

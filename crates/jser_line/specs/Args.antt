@@ -6,9 +6,9 @@ use Rattle.clap.specs.Words.{App, Row, Rule, Text, all_of, first_of, new_rule, w
 use Rattle.jser_line.specs.declared.args.Filters.{Filters}
 use Rattle.jser_line.specs.declared.args.Forms.{Forms}
 
--- an option with a value, as --filter T
+-- an option with a value that has a name in the help, as --filter T
 abbrev pub option_rule : Text → Rule
-option_rule name = record (new_rule name) { long = Some name }
+option_rule name = record (new_rule name) { long = Some name; value_names = 1 }
 
 -- a flag, as --strict
 abbrev pub flag_rule : Text → Rule
@@ -94,15 +94,15 @@ pass_rule = flag_rule (codes "pass")
 
 -- files and folders, one or more
 abbrev pub paths_rule : Rule
-paths_rule = record (new_rule (codes "path")) { required = true; action = Some Append }
+paths_rule = record (new_rule (codes "path")) { required = true; action = Some Append; value_names = 1 }
 
 -- files, one or more
 abbrev pub files_rule : Rule
-files_rule = record (new_rule (codes "file")) { required = true; action = Some Append }
+files_rule = record (new_rule (codes "file")) { required = true; action = Some Append; value_names = 1 }
 
 -- the stream's file
 abbrev pub file_rule : Rule
-file_rule = record (new_rule (codes "file")) { required = true }
+file_rule = record (new_rule (codes "file")) { required = true; value_names = 1 }
 
 -- [--filter T | --filter-file F] [--modules M]
 abbrev pub with_filter_rules : App → App
@@ -128,7 +128,7 @@ abbrev pub is_true : Option Text → Bool
 is_true None = false
 is_true (Some text) = bytes_eq text (codes "true")
 
--- a filter's text, its file, and a file of modules
+-- a filter's text, a filter file, and a modules file
 pub record FilterWords : Type 0 where
   pub text : Option Text
   pub file : Option Text

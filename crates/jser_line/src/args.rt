@@ -12,9 +12,9 @@ use std::alloc::{AllocError, Global};
 pub struct Filters {
     /// The filter's text, if one is given.
     pub text: Option<String>,
-    /// The file of a filter, if one is named.
+    /// The filter file, if one is named.
     pub file: Option<String>,
-    /// The file of modules, if one is named.
+    /// The modules file, if one is named.
     pub modules: Option<String>,
 }
 
@@ -73,29 +73,43 @@ fn filter_arg<'a>(alloc: Global) -> Arg<'a>
     ensures rule { rule_of result ≡ filter_rule }
     ensures local { result.global ≡ false }
 {
-    Arg::new(alloc, "filter").long("filter").help(
-        "Class patterns and limits, separated by ';', as java.util.*;!*;maxdepth=20. The first pattern that matches a class name decides. A text that begins with '-' is given as --filter=TEXT",
-    )
+    Arg::new(alloc, "filter")
+        .long("filter")
+        .value_name("T")
+        .help(
+            "Class patterns and limits, separated by ';', as java.util.*;!*;maxdepth=20.\n\
+             The first pattern that matches a class name decides. If T begins with '-',\n\
+             write --filter=T",
+        )
 }
 
-/// The file of a filter.
+/// The filter file.
 fn filter_file_arg<'a>(alloc: Global) -> Arg<'a>
     ensures rule { rule_of result ≡ filter_file_rule }
     ensures local { result.global ≡ false }
 {
-    Arg::new(alloc, "filter-file").long("filter-file").help(
-        "A file with a filter in place of --filter: its lines are joined by ';', and a line that begins with '#' is an empty piece. White space at an end of a piece and '#' in one are faults",
-    )
+    Arg::new(alloc, "filter-file")
+        .long("filter-file")
+        .value_name("F")
+        .help(
+            "The filter file F in place of T: its lines, joined by ';'. An empty line\n\
+             and one that begins with '#' are empty pieces. A byte order mark, '#' in a\n\
+             piece, and a blank or an unseen character at an end of a piece are faults",
+        )
 }
 
-/// The file of modules.
+/// The modules file.
 fn modules_arg<'a>(alloc: Global) -> Arg<'a>
     ensures rule { rule_of result ≡ modules_rule }
     ensures local { result.global ≡ false }
 {
-    Arg::new(alloc, "modules").long("modules").help(
-        "A file of lines package=module, for the filter's patterns of the form module/pattern",
-    )
+    Arg::new(alloc, "modules")
+        .long("modules")
+        .value_name("M")
+        .help(
+            "The modules file M: lines package=module, for patterns of the form\n\
+             module/pattern",
+        )
 }
 
 /// Whether a name that no pattern matches is refused.
@@ -106,7 +120,7 @@ fn strict_arg<'a>(alloc: Global) -> Arg<'a>
     Arg::new(alloc, "strict")
         .long("strict")
         .action(ArgAction::SetTrue)
-        .help("Refuses a class name that no pattern matches")
+        .help("Refuses a class that no pattern matches")
 }
 
 /// Whether the filter is asked about each class name that can be read at any place.
@@ -118,7 +132,8 @@ pub(crate) fn anywhere_arg<'a>(alloc: Global) -> Arg<'a>
         .long("anywhere")
         .action(ArgAction::SetTrue)
         .help(
-            "Also asks the filter about every class name that can be read at any place of the file, or lists it",
+            "Also asks the filter about every class name that can be read at any place\n\
+             of the bytes; list prints these names",
         )
 }
 
@@ -131,7 +146,8 @@ pub(crate) fn values_arg<'a>(alloc: Global) -> Arg<'a>
         .long("values")
         .action(ArgAction::SetTrue)
         .help(
-            "Prints behind the bytes of a primitive value what they mean, in brackets: a number in decimal, a char in quotes, true or false",
+            "Prints behind the bytes of a primitive value what they mean, in brackets: a\n\
+             number in decimal, a char in quotes, true or false",
         )
 }
 
@@ -140,8 +156,10 @@ pub(crate) fn limit_arg<'a>(alloc: Global) -> Arg<'a>
     ensures rule { rule_of result ≡ limit_rule }
     ensures local { result.global ≡ false }
 {
-    Arg::new(alloc, "limit").long("limit").help(
-        "Prints at most so many bytes of text, in whole lines. Where there are more, the line 'cut at N bytes' follows, and the status is 4",
+    Arg::new(alloc, "limit").long("limit").value_name("N").help(
+        "Bounds the text that is printed, not the stream: at most N bytes, in whole\n\
+             lines; no bound by default. Where the text has more, the line 'cut at N\n\
+             bytes' follows, and the status is 4",
     )
 }
 
@@ -153,7 +171,7 @@ fn hex_arg<'a>(alloc: Global) -> Arg<'a>
     Arg::new(alloc, "hex")
         .long("hex")
         .action(ArgAction::SetTrue)
-        .help("The input is hexadecimal, with white space anywhere")
+        .help("The input is hexadecimal, with white space anywhere but in records")
 }
 
 /// Whether the input is base64 of the standard alphabet.
@@ -164,9 +182,7 @@ fn base64_arg<'a>(alloc: Global) -> Arg<'a>
     Arg::new(alloc, "base64")
         .long("base64")
         .action(ArgAction::SetTrue)
-        .help(
-            "The input is base64 of the standard alphabet, with + and /, padded at its end or not, with white space anywhere",
-        )
+        .help("The same in base64 of the standard alphabet (+ and /), padded or not")
 }
 
 /// Whether the input is base64 of the URL-safe alphabet.
@@ -177,7 +193,7 @@ fn base64url_arg<'a>(alloc: Global) -> Arg<'a>
     Arg::new(alloc, "base64url")
         .long("base64url")
         .action(ArgAction::SetTrue)
-        .help("The same of the URL-safe alphabet, with - and _")
+        .help("The same in base64 of the URL-safe alphabet (- and _), padded or not")
 }
 
 /// The file of the stream.
@@ -187,7 +203,8 @@ pub(crate) fn file_arg<'a>(alloc: Global) -> Arg<'a>
 {
     Arg::new(alloc, "file")
         .required(true)
-        .help("The stream's file, or - for standard input")
+        .value_name("FILE")
+        .help("The file; - is standard input")
 }
 
 /// What the matches say of the filter.

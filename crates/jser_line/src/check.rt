@@ -13,7 +13,8 @@ use std::alloc::{AllocError, Global};
 
 /// What `--help` tells of the command, with examples.
 const EXAMPLES: &str =
-    "Prints 'yes B bytes, C contents, R refs, depth D' with status 0, or 'no at A to E: REASON' with status 1: the faulty field begins at byte A, and the first E bytes decide.
+    "Prints 'yes B bytes, C contents, R refs, depth D' with status 0, or 'no at A to E: REASON' with
+status 1: the faulty token begins at byte A, and the first E bytes decide.
 
 Examples:
   serialcheck check --filter 'java.util.*;java.lang.*;!*' session.ser
@@ -26,7 +27,8 @@ pub(crate) fn check_command<'a>(alloc: Global) -> Result<Command<'a>, AllocError
 {
     let check = Command::new(alloc, "check")
         .about(
-            "Checks whether a file is one Java serialization stream that the filter admits, and prints its counts",
+            "Checks whether a file is one Java serialization stream that the filter admits, and prints\n\
+             its counts",
         )
         .after_help(EXAMPLES);
     with_check_args(alloc, check)

@@ -19,16 +19,20 @@ const VERSION: &str = "0.1.0";
 
 /// What `--help` tells of the statuses, with an example.
 const STATUSES: &str = "Statuses:
-  0  accepted, shown or suggested; of scan, records and find, all are accepted
-  1  refused; of scan, records and find, one is; of suggest, one is no good stream
-  2  the command line, the filter or the modules are at fault; --help and --version
-  3  something was not opened, read, decoded or written, or memory ran out; of scan, records and find, for one
-  4  shown as far as --limit allows
+  0  the stream is accepted, or its text is printed; with scan, records, find and suggest, all are
+     accepted
+  1  the stream is refused; with scan, records, find and suggest, one is, or no pattern can safely
+     name a class
+  2  the command line, the filter, the filter file or the modules file is faulty or not UTF-8; also
+     --help and --version
+  3  a file cannot be opened or was not searched to its end, a read or write failed, a text is not
+     hexadecimal or base64, or memory ran out; with scan, records and find, for one of them
+  4  the text is longer than --limit allows, and was cut
 
 Example:
   serialcheck check --strict --filter 'maxdepth=20;java.util.*;java.lang.*;!*' session.ser
 
-serialcheck COMMAND --help tells more of a command.";
+serialcheck COMMAND --help prints the help of a command.";
 
 /// The program's command, with its subcommands.
 pub(crate) fn command<'a>(alloc: Global) -> Result<Command<'a>, AllocError>

@@ -12,7 +12,9 @@ use std::alloc::{AllocError, Global};
 
 /// What `--help` tells of the command, with examples.
 const EXAMPLES: &str =
-    "Prints the line of check, with its status. After that of a refusal come lines that say what the reason means, the bytes, the class, the piece of the filter, and what is open there. The stream is kept in memory until it is refused.
+    "Prints the line of check, with its status. After a refusal more lines follow: what the reason means,
+the bytes, the class, the piece of the filter that decides, and what is open there. The stream is
+kept in memory until it is refused.
 
 Examples:
   serialcheck explain --filter 'java.util.*;java.lang.*;!*' session.ser

@@ -42,7 +42,9 @@ pub struct Find {
 
 /// What `--help` tells of the command, with examples.
 const EXAMPLES: &str =
-    "Looks for the header ACED0005, and prints 'PATH: FROM to TO: ANSWER' for the longest stream that begins there, ANSWER as of scan. The search goes on behind that stream. With --text also for the header in base64 and hexadecimal, and prints 'FROM to TO as base64'. A file is held in memory.
+    "Looks for headers of streams (ACED0005), and prints 'PATH: START to END: ANSWER' for the longest
+stream that begins at each, ANSWER as of scan. The search goes on behind that stream. With --text
+also 'PATH: START to END as base64: ANSWER', or 'as hexadecimal'. A file is held in memory.
 
 Examples:
   serialcheck find --filter-file session.filter heap.hprof
@@ -57,7 +59,8 @@ pub(crate) fn find_command<'a>(alloc: Global) -> Result<Command<'a>, AllocError>
 {
     let find = Command::new(alloc, "find")
         .about(
-            "Finds the streams in other bytes, as heap dumps, captures, logs and message stores: a line for each, and the counts of all on standard error",
+            "Finds the streams in other bytes, as heap dumps, captures, logs and message stores: a\n\
+             line for each, and the counts of all on standard error",
         )
         .after_help(EXAMPLES);
     let filtered = with_strict_filters(alloc, find)?;
@@ -98,7 +101,7 @@ fn text_arg<'a>(alloc: Global) -> Arg<'a>
     Arg::new(alloc, "text")
         .long("text")
         .action(ArgAction::SetTrue)
-        .help("Tells also the streams in base64, of both alphabets, and in hexadecimal")
+        .help("Also finds streams in base64, of either alphabet, and in hexadecimal")
 }
 
 /// Whether headers with no contents are told too.
@@ -109,7 +112,7 @@ fn all_arg<'a>(alloc: Global) -> Arg<'a>
     Arg::new(alloc, "all")
         .long("all")
         .action(ArgAction::SetTrue)
-        .help("Tells also the headers with no whole content behind them")
+        .help("Also prints headers with no whole content behind them")
 }
 
 /// How many bytes of a stream are read at most.
@@ -117,8 +120,9 @@ fn most_arg<'a>(alloc: Global) -> Arg<'a>
     ensures rule { rule_of result ≡ most_rule }
     ensures local { result.global ≡ false }
 {
-    Arg::new(alloc, "most").long("most").help(
-        "Reads at most so many bytes from a header on, and tells the longest stream in them; 67108864 where this is not said",
+    Arg::new(alloc, "most").long("most").value_name("N").help(
+        "Bounds one stream, not the file: at most N bytes are read from a header on,\n\
+             67,108,864 by default, and the longest stream in them is printed",
     )
 }
 
@@ -127,9 +131,13 @@ fn effort_arg<'a>(alloc: Global) -> Arg<'a>
     ensures rule { rule_of result ≡ effort_rule }
     ensures local { result.global ≡ false }
 {
-    Arg::new(alloc, "effort").long("effort").help(
-        "Reads at most N bytes for each byte of a file, and 1048576 more; 64 where this is not given. What was not searched is reported",
-    )
+    Arg::new(alloc, "effort")
+        .long("effort")
+        .value_name("N")
+        .help(
+            "Bounds what is read of a file: N bytes for each byte of it, 64 by default,\n\
+             and 1,048,576 more. Where the search ends early, a line says where",
+        )
 }
 
 /// The folder to which the streams are written.
@@ -137,9 +145,13 @@ fn carve_arg<'a>(alloc: Global) -> Arg<'a>
     ensures rule { rule_of result ≡ carve_rule }
     ensures local { result.global ≡ false }
 {
-    Arg::new(alloc, "carve").long("carve").help(
-        "Writes each stream to the new file INPUT-NAME-START.ser of this folder, which is made where it is missing",
-    )
+    Arg::new(alloc, "carve")
+        .long("carve")
+        .value_name("DIR")
+        .help(
+            "Writes each stream to the new file DIR/INPUT-NAME-START.ser; DIR is made\n\
+             where it is missing",
+        )
 }
 
 /// How many files are written at most.
@@ -147,9 +159,10 @@ fn most_files_arg<'a>(alloc: Global) -> Arg<'a>
     ensures rule { rule_of result ≡ most_files_rule }
     ensures local { result.global ≡ false }
 {
-    Arg::new(alloc, "most-files").long("most-files").help(
-        "With --carve: writes at most so many files; 10000 where this is not given",
-    )
+    Arg::new(alloc, "most-files")
+        .long("most-files")
+        .value_name("N")
+        .help("Bounds what --carve writes: at most N files, 10,000 by default")
 }
 
 /// What its matches ask for.

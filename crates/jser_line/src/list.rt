@@ -24,7 +24,8 @@ pub(crate) fn list_command<'a>(alloc: Global) -> Result<Command<'a>, AllocError>
 {
     let list = Command::new(alloc, "list")
         .about(
-            "Prints a line for each class name in a Java serialization stream: how often it stands there, what the filter says of it, and the name. The filter refuses nothing here",
+            "Prints a line for each class name in a stream: how often it is there, what the filter\n\
+             says of it, and the name. The filter refuses nothing",
         )
         .after_help(EXAMPLES);
     let filtered = with_filters(alloc, list)?;

@@ -52,11 +52,13 @@ pub struct Records {
 
 /// What `--help` tells of the command, with examples.
 const EXAMPLES: &str =
-    "A record is a line, its value the last field, with TAB between fields; the other fields are its KEY. With --frames or --sized it is bytes behind their length. Prints 'KEY<TAB>ANSWER' for each, ANSWER as of scan; without a KEY the record's number, from 0.
+    "A record is a line: fields with a TAB between them. Its value, base64 by default, is the last field,
+and the others are its KEY. With --frames or --sized a record is bytes behind their length. Prints
+'KEY<TAB>ANSWER' for each, ANSWER as of scan; without a KEY the record's number, from 0.
 
 Examples:
   psql -c '\\copy (select id, data from t) to stdout' | serialcheck records --hex --refused -
-  kcat -C -t events -e -f '%t-%p-%o %S\\n%s\\n' | serialcheck records --sized --filter-file events.filter -";
+  kcat -C -t events -e -f '%t-%p-%o %S\\n%s\\n' | serialcheck records --sized --refused -";
 
 /// The command.
 pub(crate) fn records_command<'a>(alloc: Global) -> Result<Command<'a>, AllocError>
@@ -65,7 +67,8 @@ pub(crate) fn records_command<'a>(alloc: Global) -> Result<Command<'a>, AllocErr
 {
     let records = Command::new(alloc, "records")
         .about(
-            "Checks many streams in one input, as lines of base64 or hexadecimal, or bytes behind their length: a line for each, and the counts of all on standard error",
+            "Checks many streams in one input, as lines of base64 or hexadecimal, or bytes behind\n\
+             their length: a line for each, and the counts of all on standard error",
         )
         .after_help(EXAMPLES);
     let filtered = with_strict_filters(alloc, records)?;
@@ -116,7 +119,10 @@ fn frames_arg<'a>(alloc: Global) -> Arg<'a>
     Arg::new(alloc, "frames")
         .long("frames")
         .action(ArgAction::SetTrue)
-        .help("A record is its length in 4 bytes, highest first, and its bytes; -1 is a null")
+        .help(
+            "A record is its length in 4 bytes, highest first, and so many bytes; -1 is\n\
+             a null",
+        )
 }
 
 /// Whether a record is a line that ends in its length, and its bytes.
@@ -128,7 +134,9 @@ fn sized_arg<'a>(alloc: Global) -> Arg<'a>
         .long("sized")
         .action(ArgAction::SetTrue)
         .help(
-            "A record is a line that ends in its length, behind a space, a TAB or a '$', its bytes, and a line end: as replies of Redis and memcached, and %S of kcat",
+            "A record is a line that ends in its length in decimal, behind a space, a\n\
+             TAB, a '$' or nothing, then so many bytes, and a line end: as replies of\n\
+             Redis and memcached, and %S of kcat",
         )
 }
 
@@ -152,7 +160,8 @@ fn copy_arg<'a>(alloc: Global) -> Arg<'a>
         .long("copy")
         .action(ArgAction::SetTrue)
         .help(
-            "In base64 the characters '\\n' are passed over: psql's \\copy writes the lines of encode(.., 'base64') so",
+            "Passes over the two characters '\\n' in base64, as PostgreSQL's \\copy writes\n\
+             a line end; not with --pass",
         )
 }
 
@@ -161,8 +170,8 @@ fn field_arg<'a>(alloc: Global) -> Arg<'a>
     ensures rule { rule_of result ≡ field_rule }
     ensures local { result.global ≡ false }
 {
-    Arg::new(alloc, "field").long("field").help(
-        "The value is the field of this number, from 1, in place of the last",
+    Arg::new(alloc, "field").long("field").value_name("N").help(
+        "The value is field N of a line, from 1; the last by default",
     )
 }
 
@@ -171,8 +180,9 @@ fn most_arg<'a>(alloc: Global) -> Arg<'a>
     ensures rule { rule_of result ≡ most_rule }
     ensures local { result.global ≡ false }
 {
-    Arg::new(alloc, "most").long("most").help(
-        "A record with more bytes is not read, and its answer is 'longer than N bytes'; 16777216 where this is not said",
+    Arg::new(alloc, "most").long("most").value_name("N").help(
+        "Bounds one record, not the input: one of more than N bytes, 16,777,216 by\n\
+             default, is passed over, and its answer is 'longer than N bytes'",
     )
 }
 
@@ -185,7 +195,8 @@ fn pass_arg<'a>(alloc: Global) -> Arg<'a>
         .long("pass")
         .action(ArgAction::SetTrue)
         .help(
-            "Writes the records that are accepted, as they are, to standard output, and the answers of the others to standard error",
+            "Writes the records that are accepted, as they are, to standard output, and\n\
+             the answers of the others to standard error",
         )
 }
 

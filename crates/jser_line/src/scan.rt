@@ -15,7 +15,8 @@ use std::alloc::{AllocError, Global};
 
 /// What `--help` tells of the command, with examples.
 const EXAMPLES: &str =
-    "Prints 'PATH: ANSWER' for each file, ANSWER as of check, and behind a refused class its name.
+    "Prints 'PATH: ANSWER' for each file, ANSWER as of check, with the class name that the filter
+refused.
 
 Examples:
   serialcheck scan --refused --filter-file session.filter /var/sessions
@@ -28,7 +29,8 @@ pub(crate) fn scan_command<'a>(alloc: Global) -> Result<Command<'a>, AllocError>
 {
     let scan = Command::new(alloc, "scan")
         .about(
-            "Checks many files, and those in folders: a line for each with its path and the answer of check, and the counts of all on standard error",
+            "Checks many files and those in folders: a line for each with its path and the answer of\n\
+             check, and the counts of all on standard error",
         )
         .after_help(EXAMPLES);
     let filtered = with_strict_filters(alloc, scan)?;
@@ -71,7 +73,7 @@ pub(crate) fn json_arg<'a>(alloc: Global) -> Arg<'a>
     Arg::new(alloc, "json")
         .long("json")
         .action(ArgAction::SetTrue)
-        .help("Prints a JSON object on a line for each file, record or stream")
+        .help("Prints a JSON object on a line for each file, record or stream found")
 }
 
 /// Whether standard error is told how far it is.
@@ -83,7 +85,8 @@ pub(crate) fn progress_arg<'a>(alloc: Global) -> Arg<'a>
         .long("progress")
         .action(ArgAction::SetTrue)
         .help(
-            "Says once a second on standard error how far it is: where that is a terminal and standard output is none, also without it",
+            "Says once a second on standard error how far it is; by default where\n\
+             standard error is a terminal and standard output is none",
         )
 }
 
@@ -95,8 +98,10 @@ fn paths_arg<'a>(alloc: Global) -> Arg<'a>
     Arg::new(alloc, "path")
         .required(true)
         .action(ArgAction::Append)
+        .value_name("PATH")
         .help(
-            "Files, - for standard input, and folders: all regular files in them, links are not followed",
+            "The files and folders; - is standard input. Of a folder all regular files in it are\n\
+             checked, and links are not followed",
         )
 }
 

@@ -26,9 +26,7 @@ pub(crate) fn show_command<'a>(alloc: Global) -> Result<Command<'a>, AllocError>
     ensures local { IfOk result (λ command. (out-Command command).has_globals ≡ false) }
 {
     let show = Command::new(alloc, "show")
-        .about(
-            "Prints what a Java serialization stream holds, a line for each thing in it, and makes no object of it",
-        )
+        .about("Prints what a stream holds, a line for each thing in it, and makes no object of it")
         .after_help(EXAMPLES);
     let formed = with_forms(alloc, show)?;
     let told = formed.arg(values_arg(alloc))?;

@@ -25,7 +25,9 @@ pub(crate) fn suggest_command<'a>(alloc: Global) -> Result<Command<'a>, AllocErr
     ensures local { IfOk result (λ command. (out-Command command).has_globals ≡ false) }
 {
     let suggest = Command::new(alloc, "suggest")
-        .about("Prints a filter that admits good streams, and no class that none of them has")
+        .about(
+            "Prints the least filter that admits all of the files, and no class that none of them has",
+        )
         .after_help(EXAMPLES);
     let formed = with_forms(alloc, suggest)?;
     let slackened = formed.arg(slack_arg(alloc))?;
@@ -37,8 +39,9 @@ fn slack_arg<'a>(alloc: Global) -> Arg<'a>
     ensures rule { rule_of result ≡ slack_rule }
     ensures local { result.global ≡ false }
 {
-    Arg::new(alloc, "slack").long("slack").help(
-        "Makes each limit so many times as high, from 1, so that the next good stream is not refused for one element more",
+    Arg::new(alloc, "slack").long("slack").value_name("N").help(
+        "Makes each limit N times as high (from 1; 1 by default), so that the next\n\
+             good stream is not refused for one element more",
     )
 }
 
@@ -50,7 +53,8 @@ pub(crate) fn files_arg<'a>(alloc: Global) -> Arg<'a>
     Arg::new(alloc, "file")
         .required(true)
         .action(ArgAction::Append)
-        .help("The files, - for standard input")
+        .value_name("FILE")
+        .help("The files; - is standard input")
 }
 
 /// What its matches ask for.
