@@ -4,6 +4,8 @@ import java.io.DataOutputStream;
 import java.io.FilterInputStream;
 import java.io.IOException;
 import java.io.InputStream;
+import java.io.ObjectOutputStream;
+import java.lang.management.ManagementFactory;
 import java.nio.file.Files;
 import java.nio.file.Path;
 import java.nio.file.attribute.PosixFilePermissions;
@@ -13,8 +15,10 @@ import java.util.List;
 import java.util.concurrent.Callable;
 import java.util.zip.DeflaterOutputStream;
 import java.util.zip.InflaterInputStream;
+import javax.management.ObjectName;
 import serialcheck.Guard;
 import serialcheck.GuardSettings;
+import serialcheck.GuardStream;
 import serialcheck.Refused;
 
 /** Tries a guard out, and prints what it does: {@code Guards FOLDER}. */
@@ -140,6 +144,86 @@ public final class Guards {
         return made.toByteArray();
     }
 
+    /** Whether JMX shows a guard of this name. */
+    private static boolean isShown(String name) throws Exception {
+        return ManagementFactory.getPlatformMBeanServer().isRegistered(new ObjectName("serialcheck:type=Guard,name=" + ObjectName.quote(name)));
+    }
+
+    /** Streams in pieces; a name and a length by themselves; JMX from the first stream on. */
+    private static void tellPieces() throws Exception {
+        byte[] good = stream("good.A");
+        byte[] bad = stream("evil.A");
+        byte[] array = longArray(40_000);
+        try (Guard guard = new Guard("pieces", settings("filter", "good.*;maxarray=50000;!*", "most", "none", "anywhere", "false", "onRefusal", "reject"), LOG::add)) {
+            System.out.print(isShown("pieces") + " ");
+            GuardStream pieces = guard.begin();
+            System.out.println(isShown("pieces"));
+            for (int at = 0; at < good.length; at++) {
+                told(pieces.feed(good, at, 1), pieces::rest);
+            }
+            System.out.println(pieces.end() + " " + pieces.isWhole() + " " + guard.getAdmitted());
+            GuardStream refused = guard.begin();
+            int taken = 0;
+            Refused why = null;
+            for (; why == null; taken++) {
+                why = refused.feed(bad, taken, 1);
+            }
+            Refused last = why;
+            System.out.println(taken + " " + why.line() + " " + guard.getAdmitted() + " " + guard.getRefused());
+            told(() -> {
+                refused.refuse(() -> "pieces", last);
+                return "handed on";
+            });
+            refused.report(() -> "pieces again", last);
+            System.out.println(guard.getAdmitted() + " " + guard.getRefused() + " " + LOG.get(LOG.size() - 1));
+            GuardStream moved = guard.begin();
+            System.out.println(moved.feed(good, 0, 25) + " " + moved.feed(bad, 0, 3).line() + " " + moved.back(25) + " " + moved.feed(good, 25, good.length - 25) + " " + moved.end());
+            try (GuardStream held = guard.begin()) {
+                System.out.println(held.feed(array, 0, 30_000) + " " + held.isWhole() + " " + held.feed(array, 30_000, array.length - 30_000) + " " + held.isWhole() + " " + held.back(9));
+                held.rest();
+                System.out.println(held.end());
+            }
+            for (String name : new String[] {"good.A", "[Lgood.A;", "good.A[]", "evil.A", "[Levil.A;", "evil.A[]", "[[I", "int"}) {
+                System.out.print(shown(guard.name(name)) + "; ");
+            }
+            System.out.println(shown(guard.name("good.A")));
+            System.out.println(shown(guard.array(50_000)) + " " + shown(guard.array(50_001)) + " " + shown(guard.array(3)) + " " + shown(guard.array(Integer.MAX_VALUE)));
+        }
+        try (Guard guard = guard("filter", "good.*;!*", "most", "25"); GuardStream pieces = guard.begin()) {
+            System.out.println(pieces.feed(good, 0, 25) + " " + pieces.feed(good, 25, 1).line() + " " + guard.begin().feed(bad, 0, bad.length).line() + " " + guard.begin().feed(good, 0, good.length).to());
+        }
+    }
+
+    private static void told(Refused why, Runnable then) {
+        if (why != null) {
+            System.out.println(why.line());
+        }
+        then.run();
+    }
+
+    private static String shown(Refused why) {
+        return why == null ? "admitted" : why.line();
+    }
+
+    /** A stream with an array of zeros. */
+    private static byte[] longArray(int length) throws IOException {
+        ByteArrayOutputStream bytes = new ByteArrayOutputStream();
+        try (ObjectOutputStream out = new ObjectOutputStream(bytes)) {
+            out.writeObject(new byte[length]);
+        }
+        return bytes.toByteArray();
+    }
+
+    /** A filter that names a module, and its table. */
+    private static void tellModules(Path folder) throws Exception {
+        Path table = folder.resolve("modules");
+        Files.writeString(table, "good=a.module\n");
+        told(checked(guard("filter", "a.module/good.*;!*", "modules", table.toString()), "of a module", stream("good.A")));
+        told(checked(guard("filter", "a.module/good.*;!*", "modules", table.toString()), "of another one", stream("evil.A")));
+        Files.writeString(table, "good\n");
+        told(() -> guard("filter", "a.module/good.*;!*", "modules", table.toString()));
+    }
+
     /** Changes the filter's file. A guard looks at it once a second. */
     private static void tellFile(Path file) throws Exception {
         byte[] bytes = stream("good.A");
@@ -204,5 +288,7 @@ public final class Guards {
         tellNames();
         tellInputs();
         tellFolder(Path.of(words[0], "aside"));
+        tellPieces();
+        tellModules(Path.of(words[0]));
     }
 }

@@ -16,6 +16,11 @@ final class Answer {
         return (int) words[0];
     }
 
+    /** Whether a no says that the bytes end too early, so that others may come. */
+    boolean isCut() {
+        return reason().equals("Truncated");
+    }
+
     /** The name of the reason of a no. */
     String reason() {
         return there(Native.reasonName((int) words[1]));

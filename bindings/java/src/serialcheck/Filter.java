@@ -186,6 +186,25 @@ public final class Filter implements AutoCloseable {
         return answer.report();
     }
 
+    Refused refusal(byte[] bytes) {
+        return refusal(bytes, 0, bytes.length);
+    }
+
+    /** Why bytes are refused, whatever comes behind them; null where they are admitted or only cut. */
+    Refused refusal(byte[] bytes, int from, int length) {
+        Answer answer = new Answer();
+        try {
+            held.check(bytes, from, length, answer);
+        } finally {
+            Reference.reachabilityFence(this);
+        }
+        if (answer.status() == Answer.NO) {
+            return answer.isCut() ? null : new Refused(answer);
+        }
+        answer.wantOfFilter(Answer.YES);
+        return null;
+    }
+
     /**
      * Checks all bytes of an input, in pieces that are not kept: for a file that nobody changes meanwhile. It reads no further
      * than a refusal needs.

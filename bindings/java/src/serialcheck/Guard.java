@@ -1,12 +1,11 @@
 package serialcheck;
 
-import java.io.ByteArrayInputStream;
-import java.io.ByteArrayOutputStream;
 import java.io.IOException;
 import java.io.InputStream;
 import java.io.SequenceInputStream;
 import java.util.Arrays;
 import java.util.Map;
+import java.util.concurrent.atomic.AtomicBoolean;
 import java.util.function.Consumer;
 import java.util.function.Supplier;
 
@@ -19,6 +18,8 @@ import java.util.function.Supplier;
 public final class Guard implements GuardMXBean, AutoCloseable {
     /** How many bytes of an input are read, and judged, at once. */
     private static final int PIECE = 8192;
+    /** How many bytes of a stream in pieces are kept to be kept aside. */
+    private static final int MOST_KEPT = 1 << 20;
     /** How many letters of the name of a thing are logged at the most. */
     private static final int MOST_LETTERS = 300;
 
@@ -28,7 +29,10 @@ public final class Guard implements GuardMXBean, AutoCloseable {
     private final GuardFolder folder;
     private final GuardCounts counts = new GuardCounts();
     private final Consumer<String> log;
-    private final AutoCloseable bean;
+    private final String name;
+    private final boolean isInside;
+    private final AtomicBoolean isShown = new AtomicBoolean();
+    private volatile AutoCloseable bean;
 
     /** Opens a decompressor. */
     @FunctionalInterface
@@ -43,7 +47,7 @@ public final class Guard implements GuardMXBean, AutoCloseable {
     }
 
     /**
-     * Makes a guard, and shows it to JMX where the JVM has that. It lives until it is closed.
+     * Makes a guard. JMX shows it from the first stream on, where the JVM has that. It lives until it is closed.
      *
      * @param name what JMX calls it
      * @param settings the settings; a filter or its file is among them, and with {@code quarantine} a folder
@@ -52,10 +56,12 @@ public final class Guard implements GuardMXBean, AutoCloseable {
      * @throws IOException where the filter's file cannot be read, or the folder cannot be made
      */
     public Guard(String name, GuardSettings settings, Consumer<String> log) throws IOException {
-        this(name, settings, log, true);
+        this(name, settings, log, true, false);
     }
 
-    private Guard(String name, GuardSettings settings, Consumer<String> log, boolean hasFolder) throws IOException {
+    private Guard(String name, GuardSettings settings, Consumer<String> log, boolean hasFolder, boolean isInside) throws IOException {
+        this.name = name;
+        this.isInside = isInside;
         onRefusal = settings.onRefusal();
         most = settings.most();
         this.log = line -> log.accept(printable(line, Integer.MAX_VALUE));
@@ -65,7 +71,6 @@ public final class Guard implements GuardMXBean, AutoCloseable {
         }
         filter = new GuardFilter(settings, this.log);
         folder = keeps ? new GuardFolder(settings.quarantine()) : null;
-        bean = shown(name);
     }
 
     /**
@@ -79,7 +84,68 @@ public final class Guard implements GuardMXBean, AutoCloseable {
      * @throws IOException where the filter's file cannot be read
      */
     public static Guard withoutFolder(String name, GuardSettings settings, Consumer<String> log) throws IOException {
-        return new Guard(name, settings, log, false);
+        return new Guard(name, settings, log, false, false);
+    }
+
+    /**
+     * Makes a guard that is called in the midst of other code, as in a constructor: a thread of its own shows it to JMX.
+     *
+     * @param name what JMX calls it
+     * @param settings the settings; a filter or its file is among them, and with {@code quarantine} a folder
+     * @param log takes the lines of the log, each of printable ASCII with no line end, from any thread
+     * @return the guard
+     * @throws IllegalArgumentException where a setting is missing or the filter is faulty: the message says which
+     * @throws IOException where the filter's file cannot be read, or the folder cannot be made
+     */
+    public static Guard inside(String name, GuardSettings settings, Consumer<String> log) throws IOException {
+        return new Guard(name, settings, log, true, true);
+    }
+
+    /**
+     * Begins to judge a stream that comes in pieces. It is counted as admitted until it is refused.
+     *
+     * @return what takes the pieces
+     * @throws IllegalStateException where the guard is closed
+     */
+    public GuardStream begin() {
+        return begun(folder == null ? 0 : Math.min(most, MOST_KEPT));
+    }
+
+    /**
+     * Begins to judge a stream that is neither counted nor shown, as to load each class that a check needs.
+     *
+     * @return what takes the pieces
+     * @throws IllegalStateException where the guard is closed
+     */
+    public GuardStream trial() {
+        return new GuardStream(this, filter.get().streams, most, 0);
+    }
+
+    private GuardStream begun(int mostKept) {
+        show();
+        counts.admit();
+        return new GuardStream(this, filter.get().streams, most, mostKept);
+    }
+
+    /**
+     * Judges a class name by itself, as a reader is about to look for it: by its core, which is what a reader that takes other
+     * spellings finds (docs/REFUSALS.md, HiddenName).
+     *
+     * @param className a name as {@link Class#getName} spells it, or another spelling
+     * @return why the filter does not admit it, with no place; or null
+     */
+    public Refused name(String className) {
+        return filter.get().name(className);
+    }
+
+    /**
+     * Judges the length of an array by itself, as it is about to be allocated.
+     *
+     * @param length its length
+     * @return why the filter does not admit it, with no place; or null
+     */
+    public Refused array(int length) {
+        return filter.get().array(length);
     }
 
     /**
@@ -90,6 +156,7 @@ public final class Guard implements GuardMXBean, AutoCloseable {
      * @throws Refused where they are refused, and the guard does not only report
      */
     public void check(Supplier<String> what, byte[] bytes) throws Refused {
+        show();
         Refused why = bytes.length > most ? tooLong() : judged(bytes);
         if (why == null) {
             counts.admit();
@@ -108,14 +175,14 @@ public final class Guard implements GuardMXBean, AutoCloseable {
      * @throws IOException where it cannot be read
      */
     public InputStream open(Supplier<String> what, InputStream in) throws IOException {
-        Kept kept = new Kept();
-        Refused why = readAndJudge(in, kept);
-        if (why == null) {
-            counts.admit();
-            return kept.input();
+        try (GuardStream stream = begun(Integer.MAX_VALUE)) {
+            Refused why = readAndJudge(in, stream);
+            if (why == null) {
+                return stream.input();
+            }
+            stream.refuse(what, why);
+            return new SequenceInputStream(stream.input(), in);
         }
-        refuse(what, why, kept.toByteArray());
-        return new SequenceInputStream(kept.input(), in);
     }
 
     /**
@@ -128,6 +195,7 @@ public final class Guard implements GuardMXBean, AutoCloseable {
      * @throws IOException where it cannot be read
      */
     public byte[] read(Supplier<String> what, InputStream in) throws IOException {
+        show();
         byte[] bytes = in.readNBytes(most);
         if (bytes.length < most || in.read() < 0) {
             return bytes;
@@ -200,7 +268,9 @@ public final class Guard implements GuardMXBean, AutoCloseable {
     public void close() {
         filter.close();
         try {
-            bean.close();
+            if (bean != null) {
+                bean.close();
+            }
         } catch (Exception impossible) {
             throw new IllegalStateException(impossible);
         }
@@ -209,55 +279,48 @@ public final class Guard implements GuardMXBean, AutoCloseable {
     /** Why bytes are refused, or null. */
     private Refused judged(byte[] bytes) {
         try {
-            filter.get().check(bytes);
+            filter.get().streams.check(bytes);
             return null;
         } catch (Refused why) {
             return why;
         }
     }
 
-    /** Why the bytes of an input are refused, or null; `kept` then has them, as far as they were read. */
-    private Refused readAndJudge(InputStream in, Kept kept) throws IOException {
+    /** Why the bytes of an input are refused, or null; `stream` then has them, as far as they were read. */
+    private static Refused readAndJudge(InputStream in, GuardStream stream) throws IOException {
         byte[] piece = new byte[PIECE];
-        Filter filter = this.filter.get();
-        try (Stream stream = filter.stream()) {
-            for (int length; (length = in.read(piece)) >= 0; ) {
-                byte[] own = Arrays.copyOf(piece, length); // an input may keep the array that it filled, and write to it later
-                kept.write(own, 0, length);
-                if (kept.size() > most) {
-                    return tooLong();
-                }
-                stream.feed(own);
+        for (int length; (length = in.read(piece)) >= 0; ) {
+            byte[] own = Arrays.copyOf(piece, length); // an input may keep the array that it filled, and write to it later
+            Refused why = stream.feed(own, 0, length);
+            if (why != null) {
+                return stream.isTooLong() ? stream.tooLong() : why;
             }
-            stream.end();
-            return null;
-        } catch (Refused nameless) {
-            return named(nameless, filter, kept);
         }
-    }
-
-    /** The refusal of all pieces at once, which has the name of the class. */
-    private static Refused named(Refused nameless, Filter filter, Kept kept) {
-        try {
-            filter.check(kept.toByteArray());
-            return nameless;
-        } catch (Refused named) {
-            return named;
-        }
+        return stream.end();
     }
 
     private Refused tooLong() {
-        return new Refused("TooLong", "longer than " + most + " bytes");
+        return new Refused("TooLong", "longer than " + most + " bytes", most + 1L);
+    }
+
+    void retract() {
+        counts.retract();
+    }
+
+    void report(Supplier<String> what, Refused why) {
+        counts.refuse(why);
+        log.accept("serialcheck would refuse " + printable(what.get(), MOST_LETTERS) + ": " + why.line());
     }
 
     /** Counts, logs and keeps what is refused; throws the refusal where the guard does not only report. */
-    private void refuse(Supplier<String> what, Refused why, byte[] bytes) throws Refused {
-        counts.refuse(why);
-        String verb = onRefusal == GuardSettings.OnRefusal.REPORT ? "serialcheck would refuse " : "serialcheck refused ";
-        log.accept(verb + printable(what.get(), MOST_LETTERS) + ": " + why.line() + (folder == null ? "" : kept(bytes)));
-        if (onRefusal != GuardSettings.OnRefusal.REPORT) {
-            throw why;
+    void refuse(Supplier<String> what, Refused why, byte[] bytes) throws Refused {
+        if (onRefusal == GuardSettings.OnRefusal.REPORT) {
+            report(what, why);
+            return;
         }
+        counts.refuse(why);
+        log.accept("serialcheck refused " + printable(what.get(), MOST_LETTERS) + ": " + why.line() + (folder == null ? "" : kept(bytes)));
+        throw why;
     }
 
     /** Keeps refused bytes aside, and says where they are. */
@@ -283,22 +346,30 @@ public final class Guard implements GuardMXBean, AutoCloseable {
         return letter >= ' ' && letter <= '~';
     }
 
-    /** Registers the guard with JMX; what takes it away again. */
-    private AutoCloseable shown(String name) {
-        try {
-            return new GuardBean(this, name);
-        } catch (NoClassDefFoundError none) {
-            return () -> { };
-        } catch (Exception refusedByServer) {
-            log.accept("serialcheck is not shown by JMX: " + refusedByServer);
-            return () -> { };
+    /** Registers the guard with JMX, at its first stream. */
+    private void show() {
+        if (isShown.get() || !isShown.compareAndSet(false, true)) {
+            return;
+        }
+        if (isInside) {
+            Thread thread = new Thread(() -> bean = shown(), "serialcheck shows its guard");
+            thread.setContextClassLoader(null);
+            thread.setDaemon(true);
+            thread.start();
+        } else {
+            bean = shown();
         }
     }
 
-    /** Bytes that were read. What was written is read without a copy. */
-    private static final class Kept extends ByteArrayOutputStream {
-        InputStream input() {
-            return new ByteArrayInputStream(buf, 0, count);
+    /** What takes it away again. */
+    private AutoCloseable shown() {
+        try {
+            return new GuardBean(this, name);
+        } catch (NoClassDefFoundError none) {
+            return null;
+        } catch (Exception refusedByServer) {
+            log.accept("serialcheck is not shown by JMX: " + refusedByServer);
+            return null;
         }
     }
 }

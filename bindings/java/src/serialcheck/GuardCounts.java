@@ -16,6 +16,11 @@ final class GuardCounts {
         admitted.increment();
     }
 
+    /** What was counted as admitted is refused. */
+    void retract() {
+        admitted.decrement();
+    }
+
     void refuse(Refused why) {
         refused.increment();
         String name = why.shortName();

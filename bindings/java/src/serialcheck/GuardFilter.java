@@ -4,6 +4,7 @@ import java.io.IOException;
 import java.nio.file.Files;
 import java.nio.file.Path;
 import java.nio.file.attribute.BasicFileAttributes;
+import java.util.EnumSet;
 import java.util.concurrent.TimeUnit;
 import java.util.concurrent.locks.Lock;
 import java.util.concurrent.locks.ReentrantLock;
@@ -18,7 +19,8 @@ final class GuardFilter {
     private static final long SECOND = TimeUnit.SECONDS.toNanos(1);
 
     private final Path file;
-    private final Flag[] flags;
+    private final Path modules;
+    private final EnumSet<Flag> flags;
     private final Consumer<String> log;
     private final Lock looking = new ReentrantLock();
     /** What the file was when it was read, and at the last look. */
@@ -28,22 +30,23 @@ final class GuardFilter {
     private String unread;
     private volatile long looked;
     // One that another took the place of is not closed, since a check may use it; the cleaner lets it go.
-    private volatile Filter filter;
+    private volatile GuardRules rules;
 
     /** Reads the filter; a faulty one is an exception here. */
     GuardFilter(GuardSettings settings, Consumer<String> log) throws IOException {
         file = settings.filterFile();
+        modules = settings.modules();
         flags = settings.flags();
         this.log = log;
         if ((file == null) == (settings.filter() == null)) {
             throw new IllegalArgumentException("a guard needs a filter or a filterFile, and not both");
         }
         read = seen = file == null ? null : stamp();
-        filter = file == null ? Filter.ofFile(Filter.spelled(settings.filter(), "filter is not text"), flags) : readFile();
+        rules = file == null ? rules(Filter.spelled(settings.filter(), "filter is not text")) : readFile();
         looked = System.nanoTime();
     }
 
-    Filter get() {
+    GuardRules get() {
         if (file != null && System.nanoTime() - looked >= SECOND && looking.tryLock()) {
             try {
                 look();
@@ -51,11 +54,11 @@ final class GuardFilter {
                 looking.unlock();
             }
         }
-        return filter;
+        return rules;
     }
 
     void close() {
-        filter.close();
+        rules.close();
     }
 
     private void look() {
@@ -78,7 +81,7 @@ final class GuardFilter {
         String before = unread;
         unread = null;
         try {
-            filter = readFile();
+            rules = readFile();
             read = now;
             log.accept("serialcheck reads the filter of " + file + " from now on");
         } catch (IllegalArgumentException faulty) {
@@ -92,8 +95,12 @@ final class GuardFilter {
         }
     }
 
-    private Filter readFile() throws IOException {
-        return Filter.ofFile(FilterFile.read(file), flags);
+    private GuardRules readFile() throws IOException {
+        return rules(FilterFile.read(file));
+    }
+
+    private GuardRules rules(byte[] text) throws IOException {
+        return new GuardRules(text, modules == null ? new byte[0] : FilterFile.read(modules), flags);
     }
 
     /** Whether the file was last written to a second ago, or earlier. */

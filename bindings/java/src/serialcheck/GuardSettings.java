@@ -3,7 +3,6 @@ package serialcheck;
 import java.nio.file.Path;
 import java.util.EnumSet;
 import java.util.Locale;
-import java.util.Set;
 
 /**
  * The settings of a {@link Guard}, by the names that all integrations give them: each has a setter, for frameworks that fill in
@@ -21,7 +20,11 @@ public final class GuardSettings {
         REPORT
     }
 
+    /** In place of a number of bytes: there may be any number. */
+    public static final int NO_BOUND = Integer.MAX_VALUE;
+
     private String filter;
+    private String modules;
     private String filterFile;
     private boolean strict;
     private boolean anywhere = true;
@@ -53,6 +56,15 @@ public final class GuardSettings {
     }
 
     /**
+     * Sets the file of a table of modules, for a filter that names modules. It is read with the filter.
+     *
+     * @param file a path; its text is that of the program's {@code --modules}
+     */
+    public void setModules(String file) {
+        modules = file;
+    }
+
+    /**
      * Sets whether a class that no pattern matches is refused.
      *
      * @param strict false if not set
@@ -73,7 +85,7 @@ public final class GuardSettings {
     /**
      * Sets how long a stream may be, decompressed; a longer one is refused. A check may hold a copy of the stream.
      *
-     * @param bytes 1,048,576 if not set
+     * @param bytes 1,048,576 if not set; {@link #NO_BOUND}, by name {@code none}: a stream may have any length
      * @throws IllegalArgumentException where it is less than 1
      */
     public void setMost(int bytes) {
@@ -123,6 +135,9 @@ public final class GuardSettings {
             case "filterFile":
                 setFilterFile(value);
                 break;
+            case "modules":
+                setModules(value);
+                break;
             case "strict":
                 setStrict(truth(name, value));
                 break;
@@ -130,7 +145,7 @@ public final class GuardSettings {
                 setAnywhere(truth(name, value));
                 break;
             case "most":
-                setMost(number(name, value));
+                setMost(value.equals("none") ? NO_BOUND : number(name, value));
                 break;
             case "onRefusal":
                 setOnRefusal(value);
@@ -167,15 +182,19 @@ public final class GuardSettings {
         return filterFile == null ? null : Path.of(filterFile);
     }
 
-    Flag[] flags() {
-        Set<Flag> flags = EnumSet.of(Flag.NEED_PATTERN);
+    Path modules() {
+        return modules == null ? null : Path.of(modules);
+    }
+
+    EnumSet<Flag> flags() {
+        EnumSet<Flag> flags = EnumSet.of(Flag.NEED_PATTERN);
         if (strict) {
             flags.add(Flag.STRICT);
         }
         if (anywhere) {
             flags.add(Flag.ANYWHERE);
         }
-        return flags.toArray(new Flag[0]);
+        return flags;
     }
 
     int most() {

@@ -35,13 +35,28 @@ public final class Refused extends InvalidObjectException {
         className = answer.className;
     }
 
+    /** A refusal of what is no place of the bytes: the same, without one. */
+    Refused(Refused other) {
+        super("no: " + other.reason);
+        reason = other.reason;
+        meaning = other.meaning;
+        from = 0;
+        to = 0;
+        whole = 0;
+        className = other.className;
+    }
+
     /** A refusal of bytes that were not judged. */
     Refused(String reason, String message) {
+        this(reason, message, 0);
+    }
+
+    Refused(String reason, String message, long to) {
         super(message);
         this.reason = reason;
         meaning = "";
         from = 0;
-        to = 0;
+        this.to = to;
         whole = 0;
         className = null;
     }

@@ -2,12 +2,15 @@ package serialcheck;
 
 import java.lang.ref.Cleaner;
 import java.lang.ref.Reference;
+import java.util.concurrent.atomic.AtomicInteger;
 
 /**
  * A check of one stream that comes in pieces of any sizes: {@link #feed(byte[])} each, then {@link #end()}. Act on no byte before
  * {@code end} has returned. Calls of several threads wait for each other.
  */
 public final class Stream implements AutoCloseable {
+    private static final AtomicInteger HELD = new AtomicInteger();
+
     private final Held held;
     private final Cleaner.Cleanable cleanable;
 
@@ -17,10 +20,16 @@ public final class Stream implements AutoCloseable {
         private long taken;
         private String className;
 
+        Held(long handle) {
+            this.handle = handle;
+            HELD.incrementAndGet();
+        }
+
         @Override
         public synchronized void run() {
             Native.streamFree(handle);
             handle = 0;
+            HELD.decrementAndGet();
         }
 
         /** Returns how many bytes were taken in all. It makes no object before something is refused. */
@@ -48,8 +57,7 @@ public final class Stream implements AutoCloseable {
     }
 
     Stream(long handle) {
-        held = new Held();
-        held.handle = handle;
+        held = new Held(handle);
         cleanable = Filter.register(this, held);
     }
 
@@ -100,6 +108,11 @@ public final class Stream implements AutoCloseable {
             Reference.reachabilityFence(this);
         }
         return answer.report();
+    }
+
+    /** How many streams have native memory, or had some until their end and are not closed. */
+    static int held() {
+        return HELD.get();
     }
 
     /** Lets the stream go, if it was not ended. One that is forgotten is let go some time after it was last used. */
