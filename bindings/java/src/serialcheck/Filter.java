@@ -17,7 +17,6 @@ import java.util.Objects;
 import java.util.concurrent.locks.Lock;
 import java.util.concurrent.locks.ReadWriteLock;
 import java.util.concurrent.locks.ReentrantReadWriteLock;
-import java.util.function.ToLongFunction;
 
 /**
  * A filter that is read once, for many checks. Any number of threads may use it at once, and none waits for another; only its close
@@ -117,15 +116,14 @@ public final class Filter implements AutoCloseable {
      * @throws IllegalArgumentException where the text or the table is faulty: the message names the piece or the line
      */
     public Filter(String text, String modules, Flag... flags) {
-        this(answer -> Native.filterNew(spelled(text, "filter is not text"), spelled(modules, "modules are not text"), Flag.bits(flags), answer));
+        this(spelled(text, "filter is not text"), spelled(modules, "modules are not text"), Flag.bits(flags), false);
     }
 
-    /** Takes the handle that a native call returns, which writes its answer. */
-    private Filter(ToLongFunction<long[]> read) {
+    private Filter(byte[] text, byte[] modules, int flags, boolean isFile) {
         Library.need();
         Answer answer = new Answer();
         held = new Held();
-        held.handle = read.applyAsLong(answer.words);
+        held.handle = isFile ? Native.filterRead(text, modules, flags, answer.words) : Native.filterNew(text, modules, flags, answer.words);
         cleanable = CLEANER.register(this, held);
         answer.wantOfFilter(Answer.YES);
     }
@@ -149,7 +147,7 @@ public final class Filter implements AutoCloseable {
     }
 
     static Filter ofFile(byte[] file, byte[] modules, Flag... flags) {
-        return new Filter(answer -> Native.filterRead(file, modules, Flag.bits(flags), answer));
+        return new Filter(file, modules, Flag.bits(flags), true);
     }
 
     /**

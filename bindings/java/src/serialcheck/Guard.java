@@ -64,7 +64,7 @@ public final class Guard implements GuardMXBean, AutoCloseable {
         this.isInside = isInside;
         onRefusal = settings.onRefusal();
         most = settings.most();
-        this.log = line -> log.accept(printable(line, Integer.MAX_VALUE));
+        this.log = new Printer(log);
         boolean keeps = hasFolder && onRefusal == GuardSettings.OnRefusal.QUARANTINE;
         if (keeps && settings.quarantine() == null) {
             throw new IllegalArgumentException("onRefusal quarantine needs a place: quarantine");
@@ -344,6 +344,20 @@ public final class Guard implements GuardMXBean, AutoCloseable {
 
     private static boolean isPrintable(int letter) {
         return letter >= ' ' && letter <= '~';
+    }
+
+    /** A log that takes lines of printable ASCII. It is no lambda, since the first of these costs a JVM some time. */
+    private static final class Printer implements Consumer<String> {
+        private final Consumer<String> log;
+
+        Printer(Consumer<String> log) {
+            this.log = log;
+        }
+
+        @Override
+        public void accept(String line) {
+            log.accept(printable(line, Integer.MAX_VALUE));
+        }
     }
 
     /** Registers the guard with JMX, at its first stream. */

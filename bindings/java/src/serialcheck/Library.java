@@ -3,6 +3,7 @@ package serialcheck;
 import java.io.File;
 import java.io.IOException;
 import java.io.InputStream;
+import java.nio.file.FileAlreadyExistsException;
 import java.nio.file.FileSystems;
 import java.nio.file.Files;
 import java.nio.file.Path;
@@ -117,10 +118,16 @@ final class Library {
 
     /** A new folder that no other user may enter; on Windows, which has no such modes, it is in a folder of this user's own. */
     private static Path newFolder() throws IOException {
-        if (FileSystems.getDefault().supportedFileAttributeViews().contains("posix")) {
-            return Files.createTempDirectory("serialcheck-", PosixFilePermissions.asFileAttribute(PosixFilePermissions.fromString("rwx------")));
+        if (!FileSystems.getDefault().supportedFileAttributeViews().contains("posix")) {
+            return Files.createTempDirectory("serialcheck-");
         }
-        return Files.createTempDirectory("serialcheck-");
+        for (long number = System.nanoTime(); ; number++) { // a folder that is there is not taken; random numbers would cost a JVM much of its start
+            try {
+                return Files.createDirectory(Path.of(System.getProperty("java.io.tmpdir"), "serialcheck-" + number), PosixFilePermissions.asFileAttribute(PosixFilePermissions.fromString("rwx------")));
+            } catch (FileAlreadyExistsException taken) {
+                continue;
+            }
+        }
     }
 
     /** Loads a copy of a library: the only file of a new folder. */

@@ -150,6 +150,16 @@ public final class SerialcheckHook {
         return in.buf == null ? 0 : in.count - in.pos;
     }
 
+    /** What comes next in memory, or -1. */
+    public static int next(ByteArrayInputStream in) {
+        return there(in) > 0 ? in.buf[in.pos] & 0xff : -1;
+    }
+
+    /** The same. */
+    public static int next(BufferedInputStream in) {
+        return there(in) > 0 ? in.buf[in.pos] & 0xff : -1;
+    }
+
     /** Copies what comes next, and takes nothing. There are so many bytes. */
     public static void copy(ByteArrayInputStream in, byte[] to, int from, int n) {
         System.arraycopy(in.buf, in.pos, to, from, n);

@@ -255,16 +255,12 @@ final class Checked extends SerialcheckGated {
 
     /** Takes at most so many bytes that were judged ahead: how many; 0 where the input was moved, -1 where a refusal is only reported. */
     private int judgedAhead(int most) throws IOException {
-        int some = Math.min(most, end - at);
-        if (decided != null) {
-            long left = decided.to() - 1 - taken;
-            if (left <= 0) {
-                refuse(decided, readers.isOutside(decided));
-                return -1;
-            }
-            some = (int) Math.min(some, left);
+        int some = (int) Math.min(Math.min(most, end - at), decided == null ? most : decided.to() - 1 - taken);
+        if (some == 0 && (array != null ? SerialcheckHook.next(array) : SerialcheckHook.next(buffer)) == (bytes[at] & 0xff)) {
+            refuse(decided, readers.isOutside(decided));
+            return -1;
         }
-        if (array != null ? SerialcheckHook.take(array, bytes, at, some) : SerialcheckHook.take(buffer, bytes, at, some)) {
+        if (some != 0 && (array != null ? SerialcheckHook.take(array, bytes, at, some) : SerialcheckHook.take(buffer, bytes, at, some))) {
             at += some;
             taken += some;
             return some;

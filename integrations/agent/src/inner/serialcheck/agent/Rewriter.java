@@ -93,7 +93,7 @@ final class Rewriter implements ClassFileTransformer {
             }
             // readObject(Class) and readString() are private, and what they return goes out of the class (SharedSecrets).
             boolean returns = isCalled || name.equals("readObject") || name.equals("readString") && type.startsWith("()");
-            return new Gates(to, name.equals("readUnshared") || name.equals("readObject") && !type.startsWith("()"), returns, name.equals("readArray"));
+            return new Gates(to, name, type, returns);
         }
     }
 
@@ -121,13 +121,15 @@ final class Rewriter implements ClassFileTransformer {
     private final class Gates extends MethodVisitor {
         private final boolean isObject;
         private final boolean isCalled;
+        private final boolean isDescriptor;
         private boolean readsLength;
 
-        Gates(MethodVisitor to, boolean isObject, boolean isCalled, boolean readsLength) {
+        Gates(MethodVisitor to, String name, String type, boolean isCalled) {
             super(Opcodes.ASM9, to);
-            this.isObject = isObject;
+            isObject = name.equals("readUnshared") || name.equals("readObject") && !type.startsWith("()");
+            isDescriptor = name.equals("readClassDescriptor");
+            readsLength = name.equals("readArray");
             this.isCalled = isCalled;
-            this.readsLength = readsLength;
         }
 
         private void gate() {
@@ -204,6 +206,12 @@ final class Rewriter implements ClassFileTransformer {
                 super.visitMethodInsn(Opcodes.INVOKESTATIC, HOOK, "done", "(Ljava/lang/Object;J)V", false);
             } else if (isCalled && op >= Opcodes.IRETURN && op <= Opcodes.RETURN) {
                 gate();
+            }
+            if (isDescriptor && op == Opcodes.ARETURN) { // a subclass may look for the class itself
+                super.visitInsn(Opcodes.DUP);
+                super.visitVarInsn(Opcodes.ALOAD, 0);
+                super.visitInsn(Opcodes.SWAP);
+                super.visitMethodInsn(Opcodes.INVOKESTATIC, HOOK, "resolve", "(L" + READER + ";Ljava/io/ObjectStreamClass;)V", false);
             }
             super.visitInsn(op);
         }

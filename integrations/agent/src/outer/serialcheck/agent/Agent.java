@@ -52,12 +52,10 @@ public final class Agent {
         Inside.start(words, it, place());
     }
 
-    private static boolean hasSecurityManager() throws ReflectiveOperationException {
-        try {
-            return System.class.getMethod("getSecurityManager").invoke(null) != null;
-        } catch (NoSuchMethodException later) {
-            return false; // a JDK that has none any more
-        }
+    /** Not by reflection, which would cost the start of the JVM a third. */
+    @SuppressWarnings("removal")
+    private static boolean hasSecurityManager() {
+        return Runtime.version().feature() < 24 && System.getSecurityManager() != null;
     }
 
     /** The file of this jar. */
