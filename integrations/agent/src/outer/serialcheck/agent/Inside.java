@@ -17,15 +17,23 @@ import java.util.Set;
 import java.util.zip.ZipEntry;
 import java.util.zip.ZipFile;
 
-/** Starts the agent. All of its other classes are of a class loader of their own, where no application sees them. */
-final class Inside {
+/** Starts the agent. All of its other classes are of a class loader of their own, where no application sees them. It may be of another loader than Agent. */
+public final class Inside {
     private static final String STARTED = "serialcheck.agent";
 
     private Inside() {
     }
 
+    /**
+     * Starts it.
+     *
+     * @param words settings
+     * @param it what the JVM gives an agent
+     * @param jar the file of the agent
+     * @throws Exception where it cannot start; its message, or that of its cause, says why
+     */
     @SuppressWarnings("removal")
-    static void start(String words, Instrumentation it, File jar) throws Exception {
+    public static void start(String words, Instrumentation it, File jar) throws Exception {
         PrivilegedExceptionAction<Void> action = new PrivilegedExceptionAction<Void>() {
             @Override
             public Void run() throws Exception {
