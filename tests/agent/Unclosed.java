@@ -21,7 +21,8 @@ public final class Unclosed {
     public static void main(String[] words) throws Exception {
         ByteArrayOutputStream bytes = new ByteArrayOutputStream();
         try (var out = new ObjectOutputStream(bytes)) {
-            Object[] dates = new Date[Integer.parseInt(words[1]) / 20];
+            out.writeObject(new byte[Integer.parseInt(words[1]) * 9 / 10]);
+            Object[] dates = new Date[Integer.parseInt(words[1]) / 200];
             for (int at = 0; at < dates.length; at++) {
                 dates[at] = new Date(at);
             }
@@ -31,6 +32,7 @@ public final class Unclosed {
         long first = 0, most = 0;
         for (int count = Integer.parseInt(words[0]), at = 0; at < count; at++) {
             ObjectInputStream reader = new ObjectInputStream(new DataInputStream(new ByteArrayInputStream(bytes.toByteArray())));
+            reader.readObject();
             reader.readObject();
             if (at % 500 == 0) {
                 most = Math.max(most, resident());
