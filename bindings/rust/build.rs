@@ -20,6 +20,11 @@ fn main() {
     let folder = folder
         .unwrap_or_else(|| panic!("there is no {ARCHIVE} in {folders:?}: depend on the crate in a clone, or name the folder that has it: SERIALCHECK_LIB_DIR"));
     println!("cargo:rerun-if-changed={}", folder.join(ARCHIVE).display());
+    // The archive of a clone has the proved call of `list` alone (src/keyed.rs).
+    println!("cargo:rustc-check-cfg=cfg(keyed)");
+    if folder.components().any(|it| it.as_os_str() == "prebuilt") {
+        println!("cargo:rustc-cfg=keyed");
+    }
     println!("cargo:rustc-link-search=native={}", folder.display());
     println!("cargo:rustc-link-lib=static=serialcheck");
 }

@@ -7,6 +7,8 @@
 //! let refused = filter.check(b"\xac\xed\x00\x05\x01").unwrap_err();
 //! assert_eq!("no at 4 to 5: BadTag", refused.to_string());
 //! ```
+#[cfg(keyed)]
+mod keyed;
 mod raw;
 
 use raw::{Answer, Handle};
